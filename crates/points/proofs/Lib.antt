@@ -1,0 +1,4 @@
+pub mod Eight
+pub mod Halves
+pub mod Signed
+pub mod Agree
