@@ -1,0 +1,88 @@
+//! The form of every list: blocks, each a length (u32) and as many bytes. Numbers are little-endian.
+use grid_util::point::Point;
+use std::io::Write;
+
+#[derive(Default)]
+pub struct Block(Vec<u8>);
+
+impl Block {
+    /// A block whose first byte is its kind.
+    pub fn of(kind: u8) -> Block {
+        Block(vec![kind])
+    }
+    pub fn u8(&mut self, v: u8) -> &mut Block {
+        self.0.push(v);
+        self
+    }
+    pub fn u16(&mut self, v: u16) -> &mut Block {
+        self.bytes(&v.to_le_bytes())
+    }
+    pub fn u32(&mut self, v: u32) -> &mut Block {
+        self.bytes(&v.to_le_bytes())
+    }
+    pub fn i32(&mut self, v: i32) -> &mut Block {
+        self.bytes(&v.to_le_bytes())
+    }
+    pub fn bytes(&mut self, v: &[u8]) -> &mut Block {
+        self.0.extend_from_slice(v);
+        self
+    }
+    /// A point as two i16.
+    pub fn point(&mut self, p: Point) -> &mut Block {
+        self.bytes(&(p.x as i16).to_le_bytes());
+        self.bytes(&(p.y as i16).to_le_bytes())
+    }
+    /// A point as two i32.
+    pub fn far_point(&mut self, p: Point) -> &mut Block {
+        self.i32(p.x).i32(p.y)
+    }
+    /// A count (u16) and the points.
+    pub fn points(&mut self, v: &[Point]) -> &mut Block {
+        self.u16(v.len() as u16);
+        for p in v {
+            self.point(*p);
+        }
+        self
+    }
+    /// A count (u16) of numbers and the numbers, i16 each.
+    pub fn numbers(&mut self, v: &[i32]) -> &mut Block {
+        self.u16(v.len() as u16);
+        for n in v {
+            self.u16(*n as i16 as u16);
+        }
+        self
+    }
+    /// A bit for each cell, row by row, least bit first.
+    pub fn bits(&mut self, v: &[bool]) -> &mut Block {
+        for cells in v.chunks(8) {
+            self.u8((0..cells.len()).map(|i| (cells[i] as u8) << i).sum());
+        }
+        self
+    }
+    pub fn len(&self) -> usize {
+        self.0.len()
+    }
+    pub fn is_empty(&self) -> bool {
+        self.0.is_empty()
+    }
+}
+
+/// The largest block that a list may have.
+pub const MOST: usize = 65_536;
+
+/// A list on standard output.
+pub struct List(std::io::BufWriter<std::io::Stdout>);
+
+impl List {
+    pub fn out() -> List {
+        List(std::io::BufWriter::new(std::io::stdout()))
+    }
+    pub fn put(&mut self, b: &Block) {
+        assert!(b.len() <= MOST, "a block of {} bytes", b.len());
+        self.0.write_all(&(b.len() as u32).to_le_bytes()).unwrap();
+        self.0.write_all(&b.0).unwrap();
+    }
+    pub fn end(mut self) {
+        self.0.flush().unwrap();
+    }
+}
