@@ -1,0 +1,4 @@
+pub mod Small
+pub mod Cell
+pub mod Updates
+pub mod Right

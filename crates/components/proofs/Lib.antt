@@ -1,0 +1,4 @@
+pub mod State
+pub mod Roots
+pub mod Weight
+pub mod Examples

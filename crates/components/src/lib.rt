@@ -1,0 +1,118 @@
+// The union-find of the components, over lent slices: a cell's parent, and its rank.
+ghost use mathlib.Core.Path.{_≡_};
+ghost use mathlib.Core.Bool.{not};
+ghost use Prim.Native.Nat.{_≤_, _<_, _^_};
+ghost use lib.ListN.{length, getD};
+ghost use lib.Dec.{eqb};
+ghost use Rattle.components.specs.Components.{Forest, cellOk, stateOk, rootOf, halve, linked, united};
+
+// Whether cell i has a rank of at most 200, and is its own parent or has one of higher rank.
+fn cell_ok(parent: &[u16], rank: &[u8], n: usize, i: usize) -> bool
+    requires { ⌜ (i < n) × (n ≤ length (now parent)) × (n ≤ length (now rank)) ⌝ }
+    ensures { λ r. ⌜ r ≡ cellOk n (now (parent .entry)) (now (rank .entry)) i ⌝ }
+{
+    let low = rank[i];
+    if 200 < low {
+        return false;
+    }
+    let up = parent[i] as usize;
+    if up == i {
+        return true;
+    }
+    if n <= up {
+        return false;
+    }
+    let high = rank[up];
+    low < high
+}
+
+// Whether the first n cells are a legal state: the test behind STATE.
+pub fn state_ok(parent: &[u16], rank: &[u8], n: usize) -> bool
+    requires { ⌜ (n ≤ length (now parent)) × (n ≤ length (now rank)) ⌝ }
+    ensures { λ r. ⌜ r ≡ stateOk n (now (parent .entry)) (now (rank .entry)) ⌝ }
+{
+    for i in 0..n {
+        let ok = cell_ok(parent, rank, n, i);
+        if !ok {
+            return false;
+        }
+    }
+    true
+}
+
+// The root of a cell. The ranks only say that the walk ends.
+pub fn find(parent: &[u16], rank: &[u8], n: usize, start: usize) -> usize
+    requires { ⌜ Forest 255 n (now parent) (now rank) × (start < n) ⌝ }
+    ensures { λ r. ⌜ r ≡ rootOf (now (parent .entry)) start ⌝ }
+{
+    let mut x = start;
+    let mut up = parent[x] as usize;
+    while up != x {
+        x = up;
+        up = parent[x] as usize;
+    }
+    x
+}
+
+// Whether two cells are in one component.
+pub fn same(parent: &[u16], rank: &[u8], n: usize, a: usize, c: usize) -> bool
+    requires { ⌜ Forest 255 n (now parent) (now rank) × (a < n) × (c < n) ⌝ }
+    ensures { λ r. ⌜ r ≡ eqb (rootOf (now (parent .entry)) a) (rootOf (now (parent .entry)) c) ⌝ }
+{
+    find(parent, rank, n, a) == find(parent, rank, n, c)
+}
+
+// The root of a cell, with the way to it halved.
+pub fn find_mut(parent: &mut [u16], rank: &[u8], n: usize, start: usize) -> usize
+    requires { ⌜ Forest 255 n (now parent) (now rank) × (start < n) ⌝ }
+    ensures { λ r. ⌜ (r ≡ rootOf (now (parent .entry)) start) × (now (parent .exit) ≡ halve (now (parent .entry)) start) ⌝ }
+{
+    let mut x = start;
+    let mut up = parent[x] as usize;
+    while up != x {
+        let grand = parent[up];
+        parent[x] = grand;
+        x = up;
+        up = grand as usize;
+    }
+    x
+}
+
+// The lower of two roots goes below the higher.
+fn link(parent: &mut [u16], rank: &mut [u8], a: usize, b: usize)
+    requires { ⌜ (a < length (now parent)) × (b < length (now parent)) × (a < length (now rank)) × (b < length (now rank)) ⌝ }
+    requires { ⌜ (a < 2 ^ 16) × (b < 2 ^ 16) × (getD (now rank) a 0 < 255) ⌝ }
+    ensures { λ _. ⌜ (now (parent .exit) ≡ linked (now (parent .entry)) (now (rank .entry)) a b .parent)
+        × (now (rank .exit) ≡ linked (now (parent .entry)) (now (rank .entry)) a b .rank) ⌝ }
+{
+    let ra = rank[a];
+    let rb = rank[b];
+    if ra < rb {
+        parent[a] = b as u16;
+        return;
+    }
+    parent[b] = a as u16;
+    if rb < ra {
+        return;
+    }
+    rank[a] = ra + 1;
+}
+
+// Joins the components of two cells, and says whether they were two.
+pub fn union(parent: &mut [u16], rank: &mut [u8], n: usize, x: usize, y: usize) -> bool
+    requires { ⌜ Forest 254 n (now parent) (now rank) × (n ≤ 2 ^ 16) × (x < n) × (y < n) ⌝ }
+    ensures { λ r. ⌜ (now (parent .exit) ≡ united (now (parent .entry)) (now (rank .entry)) x y .parent)
+        × (now (rank .exit) ≡ united (now (parent .entry)) (now (rank .entry)) x y .rank)
+        × (r ≡ not (eqb (rootOf (now (parent .entry)) x) (rootOf (now (parent .entry)) y))) ⌝ }
+{
+    if x == y {
+        return false;
+    }
+    let a = find_mut(parent, rank, n, x);
+    let b = find_mut(parent, rank, n, y);
+    if a == b {
+        return false;
+    }
+    link(parent, rank, a, b);
+    true
+}

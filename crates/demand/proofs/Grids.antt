@@ -1,0 +1,221 @@
+-- The demand on grids by value: a grid that the calls made is the grid of tables that the calls on tables made, and no call refuses its state.
+-- Assumes nothing.
+use mathlib.Core.Path.{_≡_, refl, sym, ap, subst, _∙_}
+use mathlib.Core.Bool.{Bool, true, false, true≢false, not}
+use mathlib.Core.List.{List, [], _∷_}
+use Prim.Native.Nat.{ℕ, suc, _+_, _*_, _≤_, _<_}
+use native.Mathlib.Omega.{arith}
+use native.Mathlib.Decide.{decLe}
+use lib.ListN.{length-replicate}
+use borrow.Author.Tests.{lt-ltb, eq-eqb}
+use Rattle.points.specs.declared.Point.{Point}
+use Rattle.masks.specs.Masks.{forcedOf}
+use Rattle.components.specs.Components.{Same, rootOf}
+use Rattle.components.proofs.State.{and-true}
+use Rattle.cells.specs.Cells.{mostSide, sizedOf, placeOf, cellOf, MasksRight}
+use Rattle.cells.proofs.Cell.{area, cell-lt, of-inside, places}
+use Rattle.tables.specs.Tables.{Tables, Sides, Room, newOf, editOf, rebuildOf, updateOf, mostRank}
+use Rattle.tables.proofs.Joins.{fits, sides-of}
+use Rattle.questions.specs.Questions.{reachableOf, rootedOf}
+use Rattle.grid.specs.declared.Grid.{Grid}
+use Rattle.grid.specs.declared.Outcome.{Outcome}
+use Rattle.grid.specs.declared.Outcome.the-variants.{Done, Refused}
+use Rattle.grid.specs.declared.Change.{Change}
+use Rattle.grid.specs.declared.Verdict.the-variants.{No}
+use Rattle.grid.specs.Grids.{gridOf, legalOf, cellIn, locatedOf, askedOf, changed, editGrid, setOutcome, rebuildGrid, updateGrid, rebuildOutcome, updateOutcome, newGrid, empty}
+use Rattle.grid.specs.Questions.{verdictAfter, reachableFrom}
+use Rattle.grid.proofs.Tests.{legal-of, located-in, stated-yes, done-located}
+use Rattle.grid.proofs.Calls.{set-done, rebuild-done, update-done}
+use Rattle.demand.specs.Walks.{Free, Walk}
+use Rattle.demand.specs.Demand3.{Call, set, rebuild, update, called, after, Edit, afterEdits, noneBlocks, componentIn, Share, ForcedRight, Clauses, edited, Demand3, point, NoIsTrue, Made, NeverRefused}
+use Rattle.demand.proofs.Runs as Runs
+use Rattle.demand.proofs.Good.{Good, good-edit, good-rebuild, good-update, good-new}
+use Rattle.demand.proofs.Masks.{Follows}
+use Rattle.demand.proofs.Theorem
+
+-- a refused edit hands the same grid back
+refused-set : (g : Grid) (d : Bool) (p : Point) (b : Bool) → g .width * g .height ≤ cellIn g p → setOutcome g d p b .grid ≡ g
+unfolding setOutcome
+refused-set g d p b l = go (locatedOf g p) (λ e. omega (arith, done-located g p e .1))
+  where
+    go : (o : Outcome) → (Done ≡ o → ⊥) → changed o g (editGrid g d p b) .grid ≡ g
+    go Done n = absurd (n refl)
+    go (Refused r) n = refl
+
+-- an answer of no, and cells that share a component
+said-no : (o : Outcome) (t : Bool) → verdictAfter o t ≡ No → t ≡ false
+said-no Done true e = let z : _≡_ {A = ℕ} 0 1 = cc in absurd (omega arith)
+said-no Done false e = refl
+said-no (Refused r) t e = let z : _≡_ {A = ℕ} 0 1 = cc in absurd (omega arith)
+
+says-yes : (n : ℕ) (p : List ℕ) (a c : ℕ) → a < n → c < n → Same p a c → reachableOf n p a c ≡ true
+unfolding reachableOf rootedOf
+says-yes n p a c ha hc e = rw (lt-ltb a n ha, lt-ltb c n hc, eq-eqb (rootOf p a) (rootOf p c) e)
+
+module _ (w h : ℕ) (ok : sizedOf w h ≡ true) where
+  pub sides : Sides w h
+  sides = sides-of ok
+
+  legal-is : (t : Tables) → Good mostRank w h t → legalOf (gridOf w h t) ≡ true
+  legal-is t G = legal-of (gridOf w h t) (omega arith) ok (G .light .forest)
+
+  pub edit-is : (d : Bool) (p : Point) (b : Bool) (t : Tables) → Good mostRank w h t → cellOf w h p < w * h
+      → setOutcome (gridOf w h t) d p b .grid ≡ gridOf w h (editOf w h d t (placeOf (p .x) w) (placeOf (p .y) h) b)
+  edit-is d p b t G l =
+      sym (ap (λ (a : Change). a .grid) (set-done (gridOf w h t) d p b (located-in (gridOf w h t) p (cellOf w h p) (legal-is t G) refl l)))
+
+  pub edit-good : (d : Bool) (p : Point) (b : Bool) (t : Tables) → Good mostRank w h t → cellOf w h p < w * h
+      → Good mostRank w h (editOf w h d t (placeOf (p .x) w) (placeOf (p .y) h) b)
+  edit-good d p b t G l = let q = places w h p l in good-edit w h (omega arith) d t (placeOf (p .x) w) (placeOf (p .y) h) b (q .0) (q .1) G
+
+  pub rebuilt-is : (d : Bool) (t : Tables) → Good mostRank w h t → rebuildOutcome (gridOf w h t) d .grid ≡ gridOf w h (rebuildOf w h d t)
+  unfolding rebuildGrid
+  rebuilt-is d t G =
+      sym (ap (λ (a : Change). a .grid) (rebuild-done (gridOf w h t) d (rebuildGrid (gridOf w h t) d) (stated-yes (gridOf w h t) (legal-is t G)) refl))
+
+  updated-is : (d : Bool) (t : Tables) → Good mostRank w h t → updateOutcome (gridOf w h t) d .grid ≡ gridOf w h (updateOf w h d t)
+  unfolding updateGrid
+  updated-is d t G =
+      sym (ap (λ (a : Change). a .grid) (update-done (gridOf w h t) d (updateGrid (gridOf w h t) d) (stated-yes (gridOf w h t) (legal-is t G)) refl))
+
+  -- g is the grid of good tables
+  record Rep (g : Grid) : Type 0 where
+    tables : Tables
+    good : Good mostRank w h tables
+    is : g ≡ gridOf w h tables
+
+  rep-set : (d : Bool) (p : Point) (b : Bool) (t : Tables) → Good mostRank w h t → Dec (cellOf w h p < w * h) → Rep (setOutcome (gridOf w h t) d p b .grid)
+  rep-set d p b t G (yes l) =
+      record { tables = editOf w h d t (placeOf (p .x) w) (placeOf (p .y) h) b; good = edit-good d p b t G l; is = edit-is d p b t G l }
+  rep-set d p b t G (no n) = record { tables = t; good = G; is = refused-set (gridOf w h t) d p b (omega arith) }
+
+  rep-call : (c : Call) (t : Tables) → Good mostRank w h t → Rep (called (gridOf w h t) c)
+  rep-call (set d p b) t G = rep-set d p b t G (decLe (suc (cellOf w h p)) (w * h))
+  rep-call (rebuild d) t G = record { tables = rebuildOf w h d t; good = good-rebuild w h (omega arith) (fits sides) d t G; is = rebuilt-is d t G }
+  rep-call (update d) t G = record { tables = updateOf w h d t; good = good-update w h (omega arith) (fits sides) d t G; is = updated-is d t G }
+
+  rep-calls : (cs : List Call) (t : Tables) → Good mostRank w h t → Rep (after (gridOf w h t) cs)
+  rep-calls [] t G = record { tables = t; good = G; is = refl }
+  rep-calls (c ∷ cs) t G =
+      let r = rep-call c t G in
+      subst (λ (g : Grid). Rep (after g cs)) (sym (r .is)) (rep-calls cs (r .tables) (r .good))
+
+  pub room : Room w h empty
+  room =
+      let s = sides in
+      let a = area w h (s .wide) (s .high) in
+      let l = length-replicate {A = ℕ} (mostSide * mostSide) 0 in
+      record { blocked = omega (arith, l); masks = omega (arith, l); forced = omega (arith, l); parent = omega (arith, l); rank = omega (arith, l) }
+
+  rep-new : (cs : List Call) → Rep (after (newGrid w h) cs)
+  unfolding newGrid
+  rep-new cs = rep-calls cs (newOf w h empty) (good-new w h (omega arith) (fits sides) (sides .some) empty room)
+
+  -- the edits that are accepted
+  taken : (e : Edit) → Dec (cellOf w h (e .at) < w * h) → List (Runs.Edit w h) → List (Runs.Edit w h)
+  taken e (yes l) es =
+      let q = places w h (e .at) l in
+      record { x = placeOf (e .at .x) w; y = placeOf (e .at .y) h; left = q .0; down = q .1; blocked = e .blocked } ∷ es
+  taken e (no n) es = es
+
+  accepted : List Edit → List (Runs.Edit w h)
+  accepted [] = []
+  accepted (e ∷ es) = taken e (decLe (suc (cellOf w h (e .at))) (w * h)) (accepted es)
+
+  edits-are : (d : Bool) (es : List Edit) (t : Tables) → Good mostRank w h t → afterEdits d (gridOf w h t) es ≡ gridOf w h (Runs.afterEdits w h d t (accepted es))
+  unfolding accepted taken
+  edits-are d [] t G = refl
+  edits-are d (e ∷ es) t G = go (decLe (suc (cellOf w h (e .at))) (w * h)) (λ s H. edits-are d es s H)
+    where
+      go : (p : Dec (cellOf w h (e .at) < w * h)) → ((s : Tables) → Good mostRank w h s → afterEdits d (gridOf w h s) es ≡ gridOf w h (Runs.afterEdits w h d s (accepted es)))
+          → afterEdits d (setOutcome (gridOf w h t) d (e .at) (e .blocked) .grid) es ≡ gridOf w h (Runs.afterEdits w h d t (taken e p (accepted es)))
+      go (yes l) ih =
+          ap (λ (g : Grid). afterEdits d g es) (edit-is d (e .at) (e .blocked) t G l)
+          ∙ ih (editOf w h d t (placeOf (e .at .x) w) (placeOf (e .at .y) h) (e .blocked)) (edit-good d (e .at) (e .blocked) t G l)
+      go (no n) ih = ap (λ (g : Grid). afterEdits d g es) (refused-set (gridOf w h t) d (e .at) (e .blocked) (omega arith)) ∙ ih t G
+
+  none-are : (es : List Edit) → noneBlocks es ≡ true → Runs.noneBlocks w h (accepted es) ≡ true
+  unfolding accepted taken
+  none-are [] n = refl
+  none-are (e ∷ es) n = go (decLe (suc (cellOf w h (e .at))) (w * h)) (none-are es (z .1))
+    where
+      z : (not (e .blocked) ≡ true) × (noneBlocks es ≡ true)
+      z = and-true (not (e .blocked)) (noneBlocks es) n
+
+      go : (p : Dec (cellOf w h (e .at) < w * h)) → Runs.noneBlocks w h (accepted es) ≡ true → Runs.noneBlocks w h (taken e p (accepted es)) ≡ true
+      go (yes l) ih = rw (z .0, ih)
+      go (no k) ih = ih
+
+  good-edits : (d : Bool) (es : List (Runs.Edit w h)) (t : Tables) → Good mostRank w h t → Good mostRank w h (Runs.afterEdits w h d t es)
+  good-edits d [] t G = G
+  good-edits d (e ∷ es) t G = good-edits d es _ (good-edit w h (omega arith) d t (e .x) (e .y) (e .blocked) (e .left) (e .down) G)
+
+  -- the clauses of tables are those of their grid
+  clauses-are : (d : Bool) (es : List Edit) (t : Tables) → Good mostRank w h t → Runs.Clauses w h d (accepted es) t → Clauses componentIn w h d es (gridOf w h t)
+  clauses-are d es t G C =
+      record {
+        masks = C .masks;
+        forced = C .forced;
+        joined = C .joined;
+        kept = λ more a c ha hc q. subst (λ (g : Grid). Share componentIn g a c) (sym (edits-are d more t G)) (C .kept (accepted more) a c ha hc q);
+        parted = λ n. C .parted (none-are es n);
+      }
+
+  -- an edited grid is the grid of tables that have the clauses
+  record Told (d : Bool) (es : List Edit) (g : Grid) : Type 0 where
+    tables : Tables
+    is : g ≡ gridOf w h tables
+    clauses : Clauses componentIn w h d es (gridOf w h tables)
+
+  told : (cs : List Call) (d : Bool) (es : List Edit) → Told d es (edited w h cs d es)
+  told cs d es =
+      let r = rep-new cs in
+      let t = r .tables in
+      let G = good-rebuild w h (omega arith) (fits sides) d t (r .good) in
+      let s = rebuildOf w h d t in
+      record {
+        tables = Runs.afterEdits w h d s (accepted es);
+        is = ap (λ (g : Grid). afterEdits d (rebuildOutcome g d .grid) es) (r .is) ∙ ap (λ (g : Grid). afterEdits d g es) (rebuilt-is d t (r .good)) ∙ edits-are d es s G;
+        clauses =
+            clauses-are d es (Runs.afterEdits w h d s (accepted es)) (good-edits d (accepted es) s G)
+            (Theorem.clauses {m = mostRank} w h (omega arith) d (fits sides) t (r .good) (accepted es));
+      }
+
+  -- a cell that is a point
+  pub at-point : (x y : ℕ) → x < w → y < h → cellOf w h (point x y) ≡ y * w + x
+  at-point x y hx hy = sym (of-inside w h (point x y) x y (rw (lt-ltb x w hx)) (rw (lt-ltb y h hy)) hx hy)
+
+  no-walk : (d : Bool) (es : List Edit) (t : Tables) → Clauses componentIn w h d es (gridOf w h t) → (x y i j : ℕ) → Free w h (t .blocked) x y → Free w h (t .blocked) i j
+      → reachableFrom (gridOf w h t) (point x y) (point i j) ≡ No → Walk w h (t .blocked) d (y * w + x) (j * w + i) → ⊥
+  unfolding reachableFrom
+  no-walk d es t C x y i j f k e p =
+      let a = cell-lt w h x y (f .left) (f .down) in
+      let c = cell-lt w h i j (k .left) (k .down) in
+      let n = said-no (askedOf (gridOf w h t) (point x y) (point i j)) _ e in
+      let m = rw (at-point x y (f .left) (f .down), at-point i j (k .left) (k .down)) at n in
+      true≢false (sym (says-yes (w * h) (t .parent) (y * w + x) (j * w + i) a c (C .joined _ _ p)) ∙ m)
+
+pub demand3 : Demand3
+demand3 w h ok cs d es = let r = told w h ok cs d es in subst (Clauses componentIn w h d es) (sym (r .is)) (r .clauses)
+
+pub no-is-true : NoIsTrue
+no-is-true w h ok cs d es x y i j =
+    let r = told w h ok cs d es in
+    subst
+    (λ (g : Grid). Free w h (g .blocked) x y → Free w h (g .blocked) i j → reachableFrom g (point x y) (point i j) ≡ No → Walk w h (g .blocked) d (y * w + x) (j * w + i) → ⊥)
+    (sym (r .is)) (no-walk w h ok d es (r .tables) (r .clauses) x y i j)
+
+pub never-refused : NeverRefused
+unfolding ForcedRight MasksRight Follows
+never-refused w h ok cs =
+    let r = rep-new w h ok cs in
+    let G = r .good in
+    subst (Made w h) (sym (r .is))
+    (record {
+      wide = refl;
+      high = refl;
+      legal = legal-is w h ok (r .tables) G;
+      masks = G .masks;
+      forced = λ x y hx hy. G .forced (y * w + x) (cell-lt w h x y hx hy) ∙ ap forcedOf (G .masks x y hx hy);
+      low = λ i hi. G .light .forest .low i hi;
+    })

@@ -1,0 +1,11 @@
+pub mod Walks
+pub mod Ways
+pub mod Sharing
+pub mod Masks
+pub mod Runs
+pub mod Good
+pub mod Theorem
+pub mod Grids
+pub mod Examples
+pub mod Shuts
+pub mod Ranks

@@ -1,0 +1,100 @@
+-- What the demand shuts out: one component for all, by a 3 by 1 grid with its middle blocked, and singletons for all, by a free 2 by 1 grid.
+-- Assumes nothing.
+use mathlib.Core.Path.{_≡_, refl, sym, ap, subst, _∙_}
+use mathlib.Core.Logic.{inl}
+use mathlib.Core.Bool.{true}
+use mathlib.Core.List.{List, [], _∷_}
+use Prim.Native.Nat.{ℕ, _+_, _*_, _<_}
+use native.Mathlib.Omega.{arith}
+use native.Mathlib.Decide.{ℕ-discrete}
+use lib.ListN.{length, getD, length-replicate, set}
+use lib.Seq.{getD-set-same}
+use Rattle.cells.specs.Cells.{mostSide, sizedOf, cellOf, newBlocked}
+use Rattle.cells.proofs.Updates.{length-fillTo, get-fillTo}
+use Rattle.tables.specs.Tables.{newOf, editOf, rebuildOf, mostRank}
+use Rattle.tables.proofs.Joins.{fits}
+use Rattle.grid.specs.declared.Grid.{Grid}
+use Rattle.grid.specs.Grids.{newGrid, rebuildOutcome, zeros, empty}
+use Rattle.demand.specs.Walks.{Free, Walk, stay, move}
+use Rattle.demand.specs.Demand3.{Call, edited, point, OneForAll, Singletons}
+use Rattle.demand.specs.Demand3 as Spec
+use Rattle.demand.proofs.Good.{Good, good-new}
+use Rattle.demand.proofs.Grids.{sides, edit-is, edit-good, rebuilt-is, room, at-point}
+
+good : (w h : ℕ) → sizedOf w h ≡ true → Good mostRank w h (newOf w h empty)
+good w h ok = good-new w h (omega arith) (fits (sides w h ok)) (sides w h ok .some) empty (room w h ok)
+
+two : sizedOf 2 1 ≡ true
+unfolding sizedOf
+two = refl
+
+three : sizedOf 3 1 ≡ true
+unfolding sizedOf
+three = refl
+
+-- a rebuilt new grid is free
+fresh : edited 2 1 [] true [] .blocked ≡ newBlocked 2 1 zeros
+unfolding newGrid rebuildOf newOf
+fresh = ap (λ (g : Grid). g .blocked) (rebuilt-is 2 1 two true (newOf 2 1 empty) (good 2 1 two))
+
+long : (w h : ℕ) → length (newBlocked w h zeros) ≡ mostSide * mostSide
+long w h = length-fillTo (λ i. 0) zeros (w * h) ∙ length-replicate {A = ℕ} (mostSide * mostSide) 0
+
+free : (x : ℕ) → x < 2 → Free 2 1 (newBlocked 2 1 zeros) x 0
+free x l =
+    let e : 0 * 2 + x ≡ x = omega arith in
+    record {
+      left = l;
+      down = omega arith;
+      free = rw e (get-fillTo (λ i. 0) zeros 2 x l (omega (arith, length-replicate {A = ℕ} (mostSide * mostSide) 0)));
+    }
+
+step : Walk 2 1 (newBlocked 2 1 zeros) true 0 1
+step = move stay
+    (record {
+      x = 0;
+      y = 0;
+      i = 1;
+      j = 0;
+      from = refl;
+      to = refl;
+      leaves = free 0 (omega arith);
+      enters = free 1 (omega arith);
+      step = record { across = (omega arith, omega arith); along = (omega arith, omega arith); straight = inl refl };
+    })
+
+pub singletons : Singletons
+singletons D =
+    let z : _≡_ {A = ℕ} 0 1 = D 2 1 two [] true [] .joined 0 1 (subst (λ (l : List ℕ). Walk 2 1 l true 0 1) (sym fresh) step) in
+    omega arith
+
+-- 3x1 `.#.`, rebuilt
+cut : List Call
+cut = Spec.set true (point 1 0) true ∷ []
+
+walled : edited 3 1 cut true [] .blocked ≡ set (newBlocked 3 1 zeros) 1 1
+unfolding cut newGrid rebuildOf newOf editOf
+walled =
+    let G = good 3 1 three in
+    let l : cellOf 3 1 (point 1 0) < 3 * 1 = omega (arith, at-point 3 1 three 1 0 (omega arith) (omega arith)) in
+    ap (λ (g : Grid). rebuildOutcome g true .grid .blocked) (edit-is 3 1 three true (point 1 0) true (newOf 3 1 empty) G l)
+    ∙ ap (λ (g : Grid). g .blocked) (rebuilt-is 3 1 three true (editOf 3 1 true (newOf 3 1 empty) 1 0 true) (edit-good 3 1 three true (point 1 0) true (newOf 3 1 empty) G l))
+
+-- a walk from its left end stays there
+stuck : (l : List ℕ) → getD l 1 0 ≡ 1 → {c : ℕ} → Walk 3 1 l true 0 c → c ≡ 0
+stuck l e stay = refl
+stuck l e (move {b = a} {c = c} p m) = go (stuck l e p) (ℕ-discrete (m .i) 1)
+  where
+    go : a ≡ 0 → Dec (m .i ≡ 1) → c ≡ 0
+    go b (yes q) =
+        let r : m .j * 3 + m .i ≡ 1 = omega (arith, m .enters .down) in
+        absurd (omega (arith, ap (λ (n : ℕ). getD l n 0) r, m .enters .free))
+    go b (no n) = omega (arith, m .from, m .to, m .enters .down, m .step .across .0)
+
+pub one-for-all : OneForAll
+unfolding cut
+one-for-all D =
+    let p = D 3 1 three cut true [] .parted refl 0 2 (omega arith) (omega arith) refl in
+    let q = subst (λ (l : List ℕ). Walk 3 1 l true 0 2) walled p in
+    let z : _≡_ {A = ℕ} 2 0 = stuck (set (newBlocked 3 1 zeros) 1 1) (getD-set-same (newBlocked 3 1 zeros) 1 1 0 (omega (arith, long 3 1))) q in
+    omega arith

@@ -1,0 +1,6 @@
+-- The laws of the fringe.
+pub mod Order
+pub mod Laws
+mod Lists
+mod Trim
+mod Turns

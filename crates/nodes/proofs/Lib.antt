@@ -1,0 +1,4 @@
+-- The laws of the nodes.
+mod Views
+pub mod Laws
+pub mod History

@@ -1,0 +1,84 @@
+// Offering a successor to a search: it is recorded if it is new or strictly cheaper, and then pushed onto the fringe.
+use goals::Plan;
+use points::Point;
+use points::Refusal;
+ghost use mathlib.Core.Path.{_≡_};
+ghost use Prim.Native.Nat.{_^_, _<_, _≤_};
+ghost use lib.ListN.{length};
+ghost use Rattle.goals.specs.Goals.{Aimed};
+ghost use Rattle.offers.specs.Search.{Sides, Lent, areaOf, placePoint, guessAt, outOf, view, offerOf};
+
+// How many nodes and how many fringe entries there are.
+pub struct Mark {
+    pub count: usize,
+    pub heap: usize,
+}
+
+// The counts after a step, or a refusal.
+pub enum Step {
+    Done(Mark),
+    Refused(Refusal),
+}
+
+// The point of a place: a cell, or after the last cell the start.
+pub fn place_point(p: Plan, place: usize) -> Point
+    requires { ⌜ Sides p × (place ≤ areaOf p) ⌝ }
+    ensures { λ r. ⌜ r ≡ placePoint p place ⌝ }
+{
+    let w = p.w;
+    let h = p.h;
+    if place == h * w {
+        return p.start;
+    }
+    goals::point_of(w, place)
+}
+
+// The guess at the cost from a cell to a goal.
+fn guess_at(goals: &[i32], p: Plan, cell: usize) -> u64
+    requires { ⌜ Aimed (now goals) p × (Sides p × (cell < areaOf p)) ⌝ }
+    ensures { λ r. ⌜ (r ≡ guessAt (now (goals .entry)) p cell) × (r < 2 ^ 23) ⌝ }
+{
+    let at = goals::point_of(p.w, cell);
+    goals::guess(goals, p, at)
+}
+
+// Offers a cell that is reached from node `from` at the cost k.
+pub fn offer(
+    number: &mut [u32],
+    place: &mut [u32],
+    parent: &mut [u32],
+    cost: &mut [u64],
+    keys: &mut [u64],
+    idx: &mut [u32],
+    goals: &[i32],
+    p: Plan,
+    m: Mark,
+    from: usize,
+    cell: usize,
+    k: u64,
+) -> Step
+    requires { ⌜ Lent (now goals) p (now number) (now place) (now parent) (now cost) (now keys) (now idx) m × ((cell < areaOf p) × ((from < length (now number)) × (k < 2 ^ 40))) ⌝ }
+    ensures { λ r. ⌜ outOf r (now (number .exit)) (now (place .exit)) (now (parent .exit)) (now (cost .exit)) (now (keys .exit)) (now (idx .exit)) ≡ offerOf (p .settings .fringe) (guessAt (now (goals .entry)) p cell) from cell k (view (now (number .entry)) (now (place .entry)) (now (parent .entry)) (now (cost .entry)) (now (keys .entry)) (now (idx .entry)) m) ⌝ }
+{
+    let count = m.count;
+    let heap = m.heap;
+    let limit = p.settings.fringe;
+    let r = nodes::note(number, place, parent, cost, count, cell, from, k);
+    if r.kept {
+        if limit <= heap {
+            return Step::Refused(Refusal::Fringe);
+        }
+        let h = guess_at(goals, p, cell);
+        let key = fringe::keys::key_of(k + h, h);
+        let at = r.index;
+        fringe::push(keys, idx, heap, key, at as u32);
+        return Step::Done(Mark {
+            count: r.count,
+            heap: heap + 1,
+        });
+    }
+    Step::Done(Mark {
+        count: r.count,
+        heap,
+    })
+}

@@ -1,0 +1,127 @@
+-- The tables of a grid, and what the calls that change them make of them: new, an edit, a rebuild, an update.
+-- w and h, the sides, are parameters. A cell (x, y) has the number y * w + x. Assumes nothing.
+use mathlib.Core.Bool.{Bool, true, false, not, cond, _&&_, _||_}
+use mathlib.Core.List.{List, [], _∷_}
+use Prim.Native.Nat.{ℕ, zero, suc, _+_, _*_, _≤_, _<_}
+use lib.ListN.{length, getD, set}
+use lib.Dec.{eqb, ltb}
+use Rattle.components.specs.Components.{Links, united}
+use Rattle.cells.specs.Cells.{mostSide, cellTo, masksAfter, forcedAfter, newBlocked, newMasks, newForced, newParent}
+
+-- the tables of a grid: which cells are blocked (0 is free), the neighbour masks, the forced masks, the union-find's parents and ranks, and the mark
+pub record Tables : Type 0 where
+  pub blocked : List ℕ
+  pub masks : List ℕ
+  pub forced : List ℕ
+  pub parent : List ℕ
+  pub rank : List ℕ
+  pub dirty : Bool
+
+-- what the components of a grid are made of
+abbrev pub linksOf : Tables → Links
+linksOf t = record { parent = t .parent; rank = t .rank }
+
+-- the directions in which an edit joins a cell: the neighbourhood, in its order
+unfoldable pub around : Bool → List ℕ
+around true = 0 ∷ 1 ∷ 2 ∷ 3 ∷ 4 ∷ 5 ∷ 6 ∷ 7 ∷ []
+around false = 0 ∷ 2 ∷ 4 ∷ 6 ∷ []
+
+-- the directions in which a rebuild joins a cell: (x,y+1), (x,y-1), (x+1,y), and with diagonals (x+1,y-1), (x+1,y) again, (x+1,y+1)
+unfoldable pub ahead : Bool → List ℕ
+ahead true = 4 ∷ 0 ∷ 2 ∷ 1 ∷ 2 ∷ 3 ∷ []
+ahead false = 4 ∷ 0 ∷ 2 ∷ []
+
+-- cell i is joined with cell c where c is one of the n cells, and free
+unfoldable pub joinCell : ℕ → List ℕ → ℕ → ℕ → Links → Links
+joinCell n blocked i c u = cond (ltb c n) (cond (eqb (getD blocked c 0) 0) (united (u .parent) (u .rank) i c) u) u
+
+-- the cell (x, y) is joined with its free neighbours in the directions ds, in order
+unfoldable pub joinedTo : ℕ → ℕ → List ℕ → ℕ → ℕ → List ℕ → Links → Links
+joinedTo w h blocked x y [] u = u
+joinedTo w h blocked x y (d ∷ ds) u = joinedTo w h blocked x y ds (joinCell (w * h) blocked (y * w + x) (cellTo w h x y d) u)
+
+-- an edit blocks a free cell
+abbrev pub blocks : ℕ → List ℕ → ℕ → ℕ → Bool → Bool
+blocks w blocked x y b = b && eqb (getD blocked (y * w + x) 0) 0
+
+-- `set`: a free cell that becomes blocked marks dirty and joins nothing; every other edit joins the cell with its free neighbours. Then the masks and the cell
+unfoldable pub editOf : ℕ → ℕ → Bool → Tables → ℕ → ℕ → Bool → Tables
+editOf w h diagonal t x y b = record {
+  blocked = set (t .blocked) (y * w + x) (cond b 1 0);
+  masks = masksAfter w h (t .masks) x y (not b);
+  forced = forcedAfter w h diagonal (t .masks) (t .forced) x y (not b);
+  parent = cond (blocks w (t .blocked) x y b) (linksOf t) (joinedTo w h (t .blocked) x y (around diagonal) (linksOf t)) .parent;
+  rank = cond (blocks w (t .blocked) x y b) (linksOf t) (joinedTo w h (t .blocked) x y (around diagonal) (linksOf t)) .rank;
+  dirty = blocks w (t .blocked) x y b || t .dirty;
+}
+
+-- a rebuild at one cell, free or not
+unfoldable pub cellJoined : ℕ → ℕ → Bool → List ℕ → ℕ → ℕ → Links → Links
+cellJoined w h diagonal blocked x y u = cond (eqb (getD blocked (y * w + x) 0) 0) (joinedTo w h blocked x y (ahead diagonal) u) u
+
+-- at the first m cells of the column x
+unfoldable pub columnTo : ℕ → ℕ → Bool → List ℕ → ℕ → ℕ → Links → Links
+columnTo w h diagonal blocked x zero u = u
+columnTo w h diagonal blocked x (suc m) u = cellJoined w h diagonal blocked x m (columnTo w h diagonal blocked x m u)
+
+-- at the first m columns
+unfoldable pub columnsTo : ℕ → ℕ → Bool → List ℕ → ℕ → Links → Links
+columnsTo w h diagonal blocked zero u = u
+columnsTo w h diagonal blocked (suc m) u = columnTo w h diagonal blocked m h (columnsTo w h diagonal blocked m u)
+
+-- singletons: each cell its own component
+abbrev pub singles : ℕ → ℕ → List ℕ → List ℕ → Links
+singles w h p k = record { parent = newParent w h p; rank = newBlocked w h k }
+
+-- the components of a rebuild
+abbrev pub rebuiltLinks : ℕ → ℕ → Bool → List ℕ → List ℕ → List ℕ → Links
+rebuiltLinks w h diagonal blocked p k = columnsTo w h diagonal blocked w (singles w h p k)
+
+-- a rebuild: from singletons, column by column; the mark is cleared
+unfoldable pub rebuildOf : ℕ → ℕ → Bool → Tables → Tables
+rebuildOf w h diagonal t = record {
+  blocked = t .blocked;
+  masks = t .masks;
+  forced = t .forced;
+  parent = rebuiltLinks w h diagonal (t .blocked) (t .parent) (t .rank) .parent;
+  rank = rebuiltLinks w h diagonal (t .blocked) (t .parent) (t .rank) .rank;
+  dirty = false;
+}
+
+-- `update` rebuilds if dirty
+unfoldable pub updateOf : ℕ → ℕ → Bool → Tables → Tables
+updateOf w h diagonal t = cond (t .dirty) (rebuildOf w h diagonal t) t
+
+-- a new grid in the room t: all free, singletons, not dirty
+unfoldable pub newOf : ℕ → ℕ → Tables → Tables
+newOf w h t = record {
+  blocked = newBlocked w h (t .blocked);
+  masks = newMasks w h (t .blocked) (t .masks);
+  forced = newForced w h (t .blocked) (t .masks) (t .forced);
+  parent = newParent w h (t .parent);
+  rank = newBlocked w h (t .rank);
+  dirty = false;
+}
+
+-- a grid of the longest sides has 2 to this many cells, so no rank of a grid that the calls made is above it
+abbrev pub mostRank : ℕ
+mostRank = 12
+
+-- sides in range
+pub record Sides (w h : ℕ) : Type 0 where
+  pub some : 0 < w
+  pub wide : w ≤ mostSide
+  pub high : h ≤ mostSide
+
+-- every table has a place for each cell
+pub record Room (w h : ℕ) (t : Tables) : Type 0 where
+  pub blocked : w * h ≤ length (t .blocked)
+  pub masks : w * h ≤ length (t .masks)
+  pub forced : w * h ≤ length (t .forced)
+  pub parent : w * h ≤ length (t .parent)
+  pub rank : w * h ≤ length (t .rank)
+
+-- a list of directions
+pub record Ways (l : List ℕ) : Type 0 where
+  pub few : length l ≤ 8
+  pub each : (k : ℕ) → k < length l → getD l k 0 < 8

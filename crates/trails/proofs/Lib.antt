@@ -1,0 +1,3 @@
+-- The laws of routes.
+mod Climb
+pub mod Ends

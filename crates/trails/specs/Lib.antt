@@ -1,0 +1,2 @@
+-- The definitions that the contracts cite, and what the laws say of them.
+pub mod Trail
