@@ -90,10 +90,6 @@ pub get-pick : (b : Bool) (a l : List ℕ) (c : ℕ) → getD a c 0 ≡ getD l c
 get-pick true a l c e = e
 get-pick false a l c e = refl
 
-pick-same : (b : Bool) (n : ℕ) → cond b n n ≡ n
-pick-same true n = refl
-pick-same false n = refl
-
 ltb-suc : (f n : ℕ) → (f ≡ n → ⊥) → ltb f (suc n) ≡ ltb f n
 ltb-suc f n ne =
     ⊎-elim (λ l. let m : f < n = omega (arith, ne) in lt-ltb f (suc n) (omega arith) ∙ sym (lt-ltb f n m))

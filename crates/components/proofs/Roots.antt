@@ -489,9 +489,6 @@ ran-one p k x y e = (rw (eq-eqb x y e), rw (eq-eqb x y e), rw (eq-eqb (rootOf p 
 
 module _ {b n : ℕ} {p k p₁ p₂ : List ℕ} (F : Forest b n p k) (small : b ≤ 254) (x y r s : ℕ) (hx : x < n) (hy : y < n)
     (e₁ : r ≡ rootOf p x) (e₂ : p₁ ≡ halve p x) (e₃ : s ≡ rootOf p₁ y) (e₄ : p₂ ≡ halve p₁ y) where
-  pub ran-first : Forest b n p₁ k
-  ran-first = rw e₂ (halve-legal F (omega arith) x hx)
-
   ran-s : s ≡ rootOf p y
   ran-s = cc (halve-roots F (omega arith) x hx y hy)
 

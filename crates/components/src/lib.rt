@@ -54,14 +54,6 @@ pub fn find(parent: &[u16], rank: &[u8], n: usize, start: usize) -> usize
     x
 }
 
-// Whether two cells are in one component.
-pub fn same(parent: &[u16], rank: &[u8], n: usize, a: usize, c: usize) -> bool
-    requires { ⌜ Forest 255 n (now parent) (now rank) × (a < n) × (c < n) ⌝ }
-    ensures { λ r. ⌜ r ≡ eqb (rootOf (now (parent .entry)) a) (rootOf (now (parent .entry)) c) ⌝ }
-{
-    find(parent, rank, n, a) == find(parent, rank, n, c)
-}
-
 // The root of a cell, with the way to it halved.
 pub fn find_mut(parent: &mut [u16], rank: &[u8], n: usize, start: usize) -> usize
     requires { ⌜ Forest 255 n (now parent) (now rank) × (start < n) ⌝ }

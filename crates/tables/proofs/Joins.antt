@@ -68,10 +68,6 @@ pub joined-turn : (w h : ℕ) (blocked : List ℕ) (x y : ℕ) (ds : List ℕ) (
 unfolding joinedTo
 joined-turn w h blocked x y ds k u v z hk ev e = rw (ev, add-one) (sym (ap (λ (l : List ℕ). joinedTo w h blocked x y l u) (drop-cons ds k 0 hk)) ∙ e)
 
-pub joined-none : (w h : ℕ) (blocked : List ℕ) (x y : ℕ) (u : Links) → joinedTo w h blocked x y [] u ≡ u
-unfolding joinedTo
-joined-none w h blocked x y u = refl
-
 pub joined-end : (w h : ℕ) (blocked : List ℕ) (x y : ℕ) (ds : List ℕ) (k : ℕ) (u z : Links) → length ds ≤ k
     → joinedTo w h blocked x y (drop k ds) u ≡ z → u ≡ z
 unfolding joinedTo
@@ -217,9 +213,6 @@ picked-not d u v e = rw e
 
 pub blocks-yes : (b r : Bool) → b ≡ true → r ≡ (b && r)
 blocks-yes b r e = rw e
-
-pub blocks-no : (b r : Bool) → b ≡ false → false ≡ (b && r)
-blocks-no b r e = rw e
 
 pub light-as : {m n : ℕ} (p k q l : List ℕ) → q ≡ p → l ≡ k → Light m n p k → Light m n q l
 light-as p k q l e f L = rw (e, f) L
