@@ -7,13 +7,14 @@ use mathlib.Core.List.{List}
 use lib.Dec.{ltb, leb, eqb}
 use lib.ListN.{getD, set}
 use lib.IntN.{ℤ, pos, negsuc}
+use Rattle.points.specs.Plane as plane
 use Rattle.points.specs.declared.Point.{Point}
 use Rattle.masks.specs.Masks.{bitAt, maskTo, forcedOf}
 use Rattle.points.specs.Compass.{offX, offY}
 
 -- the longest side
 abbrev pub mostSide : ℕ
-mostSide = 64
+mostSide = plane.mostSide
 
 -- sides from 1 to the longest
 unfoldable pub sizedOf : ℕ → ℕ → Bool

@@ -6,6 +6,7 @@ use Prim.Native.Nat.{ℕ, zero, suc, _+_, _*_, _/_, _%_, _<_, _≤_, min}
 use lib.Dec.{T, eqb, leb, ltb}
 use lib.IntN.{ℤ, pos, negsuc}
 use lib.ListN.{length, getD}
+use Rattle.points.specs.Plane as plane
 use Rattle.points.specs.Plane.{legal}
 use Rattle.points.specs.declared.Point.{Point}
 use Rattle.points.specs.declared.Refusal.the-variants as refusal
@@ -21,7 +22,7 @@ use Rattle.goals.specs.declared.Misplaced.the-variants.{At, Nowhere}
 
 -- the longest side of a grid, and the most goals of a search
 abbrev pub mostSide : ℕ
-mostSide = 64
+mostSide = plane.mostSide
 
 abbrev pub mostGoals : ℕ
 mostGoals = 64

@@ -19,14 +19,13 @@ pub enum Goal {
     Several(usize),
 }
 
-// What stays the same in one search: the sides, the settings, the goal and the start; and the parent of the node that is expanded.
+// What stays the same in one search: the sides, the settings, the goal and the start.
 pub struct Plan {
     pub w: usize,
     pub h: usize,
     pub settings: Settings,
     pub goal: Goal,
     pub start: Point,
-    pub parent: Point,
 }
 
 // How many goals a list holds, or GOALS.

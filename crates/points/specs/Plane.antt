@@ -1,5 +1,6 @@
--- The plane of integer points, and which of them a call takes. Assumes nothing: these are definitions.
+-- The plane of integer points, which of them a call takes, and how large a grid can be. Assumes nothing: these are definitions.
 use mathlib.Core.Bool.{Bool, _&&_}
+use Prim.Native.Nat.{ℕ}
 use lib.IntN.{ℤ, pos, negsuc}
 use lib.Signed.{leZ}
 use Rattle.points.specs.declared.Point.{Point}
@@ -11,3 +12,7 @@ inRange z = leZ (negsuc 1023) z && leZ z (pos 1023)
 -- both coordinates are in range
 abbrev pub legal : Point → Bool
 legal p = inRange (p .x) && inRange (p .y)
+
+-- the longest side of a grid
+abbrev pub mostSide : ℕ
+mostSide = 64

@@ -1,0 +1,66 @@
+-- The definitions of the expansion, by what its tests and calls say. Assumes nothing.
+use mathlib.Core.Path.{_≡_, refl}
+use mathlib.Core.Bool.{Bool, true, false, not}
+use Prim.Native.Nat.{ℕ, zero, suc, _+_, _-_, _%_}
+use native.Mathlib.Omega.{arith}
+use Rattle.points.specs.Compass.{headingOf}
+use Rattle.points.specs.declared.Point.{Point}
+use Rattle.points.specs.declared.Direction.{Direction}
+use Rattle.points.specs.declared.Refusal.{Refusal}
+use Rattle.points.specs.declared.Heading.the-variants.{Toward, Refused}
+use Rattle.points.specs.declared.Refusal.the-variants.{Depth, Same}
+use Rattle.masks.specs.Masks.{hasBit, prunedIn}
+use Rattle.goals.specs.declared.Plan.{Plan}
+use Rattle.goals.specs.Goals.{both}
+use Rattle.offers.specs.Search.{State, Out, ok, no, each}
+use Rattle.jumps.specs.declared.Cell.{Cell}
+use Rattle.jumps.specs.declared.Jump.the-variants.{At, Nothing}
+use Rattle.jumps.specs.Floor.{spotOf, byteAt, jumpOf, priceOf}
+use Rattle.expansion.specs.Expand.{Tables, againAt, giveOf, followWith, expandWith, deeperAt, expandAt}
+
+-- three tests that all say yes, the last by saying no
+pub all-of : (a b s r : Bool) → a ≡ true → b ≡ true → r ≡ s → not r ≡ both a (both b (not s))
+all-of a b s r p q e = rw (p, q, e)
+
+-- following one direction
+module _ (t : Tables) (p : Plan) (from : ℕ) (deeper : Point → Cell → ℕ → State → Out) (above : Point) (node : Cell) (mask price base e : ℕ) (s : State) where
+  pub follow-off : hasBit mask (e % 8) ≡ false → ok s ≡ followWith t p from deeper above node mask price base e s
+  unfolding followWith
+  follow-off b = rw b
+
+  module _ (b : hasBit mask (e % 8) ≡ true) where
+    pub follow-none : Nothing ≡ jumpOf (t .blocked) (t .forced) (t .goals) p e node price → ok s ≡ followWith t p from deeper above node mask price base e s
+    unfolding followWith
+    follow-none j = rw (b, ← j)
+
+    module _ (c : Cell) (k : ℕ) (j : At c k ≡ jumpOf (t .blocked) (t .forced) (t .goals) p e node price) where
+      pub follow-give : againAt (t .forced) (t .goals) p e c ≡ false → giveOf (t .goals) p from c (base + k) s ≡ followWith t p from deeper above node mask price base e s
+      unfolding followWith
+      follow-give a = rw (b, ← j, a)
+
+      pub follow-deep : againAt (t .forced) (t .goals) p e c ≡ true → deeper above c (base + k) s ≡ followWith t p from deeper above node mask price base e s
+      unfolding followWith
+      follow-deep a = rw (b, ← j, a)
+
+-- expanding again
+module _ (t : Tables) (p : Plan) (from : ℕ) (above : Point) (c : Cell) (k : ℕ) (s : State) where
+  pub deeper-none : (m : ℕ) → m ≡ 0 → no Depth ≡ deeperAt t p from m above c k s
+  unfolding deeperAt
+  deeper-none m e = rw e
+
+  pub deeper-more : (m : ℕ) → (m ≡ 0 → ⊥) → expandAt t p from (m - 1) above c k s ≡ deeperAt t p from m above c k s
+  unfolding deeperAt
+  deeper-more zero f = absurd (f refl)
+  deeper-more (suc m) f = let z : suc m - 1 ≡ m = omega arith in rw z
+
+-- expanding a cell
+module _ (t : Tables) (p : Plan) (along : Point → Cell → ℕ → ℕ → ℕ → ℕ → State → Out) (above : Point) (node : Cell) (base : ℕ) (s : State) where
+  pub expand-same : (w : Refusal) → Refused w ≡ headingOf above (spotOf (node .x) (node .y)) → no (Same above) ≡ expandWith t p along above node base s
+  unfolding expandWith
+  expand-same w e = rw (← e)
+
+  pub expand-each : (d : Direction) (mask price : ℕ) → Toward d ≡ headingOf above (spotOf (node .x) (node .y))
+      → mask ≡ prunedIn (p .settings .diagonal) (d .number % 8) (byteAt (t .neighbours) (p .w) (node .x) (node .y)) → price ≡ priceOf (d .number)
+      → each (along above node mask price base) 8 0 s ≡ expandWith t p along above node base s
+  unfolding expandWith
+  expand-each d mask price e a b = rw (← e, a, b)

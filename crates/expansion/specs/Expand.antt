@@ -1,0 +1,104 @@
+-- What expanding a cell offers, by the remaining depth. Assumes nothing: these are definitions.
+use mathlib.Core.Bool.{Bool, not, cond}
+use mathlib.Core.List.{List}
+use Prim.Native.Nat.{ℕ, zero, suc, _+_, _/_, _%_, _^_, _<_}
+use lib.Dec.{T, eqb}
+use lib.IntN.{ℤ}
+use lib.ListN.{length, getD}
+use Rattle.points.specs.Plane.{legal}
+use Rattle.points.specs.Compass.{headingOf}
+use Rattle.points.specs.declared.Point.{Point}
+use Rattle.points.specs.declared.Heading.{Heading}
+use Rattle.points.specs.declared.Heading.the-variants.{Toward, Refused}
+use Rattle.points.specs.declared.Refusal.the-variants.{Depth, Same}
+use Rattle.masks.specs.Masks.{hasBit, prunedIn}
+use Rattle.goals.specs.declared.Plan.{Plan}
+use Rattle.goals.specs.Goals.{mostSide, both}
+use Rattle.nodes.specs.Bound.{edgeOf}
+use Rattle.offers.specs.declared.Mark.{Mark}
+use Rattle.offers.specs.Search.{State, Out, ok, no, each, offerOf, guessAt, areaOf, placePoint, Lent, Expansion}
+use Rattle.jumps.specs.declared.Cell.{Cell}
+use Rattle.jumps.specs.declared.Jump.{Jump}
+use Rattle.jumps.specs.declared.Jump.the-variants.{At, Nothing}
+use Rattle.jumps.specs.Floor.{Sized, Inside, spotOf, numberOf, byteAt, stopsAt, jumpOf, priceOf}
+
+-- the tables of a grid, and the list of goals
+pub record Tables : Type 0 where
+  pub blocked : List ℕ
+  pub neighbours : List ℕ
+  pub forced : List ℕ
+  pub goals : List ℤ
+
+abbrev pub tables : List ℕ → List ℕ → List ℕ → List ℤ → Tables
+tables b n f g = record { blocked = b; neighbours = n; forced = f; goals = g }
+
+-- the tables have a byte for each cell
+pub record Floors (t : Tables) (p : Plan) : Type 0 where
+  pub sized : Sized (t .blocked) (p .w) (p .h)
+  pub sized-neighbours : Sized (t .neighbours) (p .w) (p .h)
+  pub sized-forced : Sized (t .forced) (p .w) (p .h)
+
+-- what expanding a cell asks
+pub record Ready (t : Tables) (p : Plan) (from : ℕ) (above : Point) (node : Cell) (base depth : ℕ) (number place parent cost keys idx : List ℕ) (m : Mark) : Type 0 where
+  pub floors : Floors t p
+  pub lent : Lent (t .goals) p number place parent cost keys idx m
+  pub seen : T (legal above)
+  pub inside : Inside p node
+  pub known : from < length number
+  pub cheap : base + edgeOf mostSide depth < 2 ^ 40
+
+-- expanded again exactly if improved pruning is on, the direction is diagonal and the cell that it reached is neither goal nor forced
+unfoldable pub againAt : List ℕ → List ℤ → Plan → ℕ → Cell → Bool
+againAt forced goals p e c = both (p .settings .improved) (both (eqb (e % 2) 1) (not (stopsAt forced goals p e (c .x) (c .y))))
+
+-- a cell offered at a cost
+unfoldable pub giveOf : List ℤ → Plan → ℕ → Cell → ℕ → State → Out
+giveOf goals p from c k s =
+    offerOf (p .settings .fringe) (guessAt goals p (numberOf (p .w) (c .x) (c .y))) from (numberOf (p .w) (c .x) (c .y)) k s
+
+-- what a jump found is expanded again or offered, its cost added; nothing ends the following of that direction
+abbrev pub reached : Tables → Plan → ℕ → (Cell → ℕ → State → Out) → ℕ → ℕ → State → Jump → Out
+reached t p from deeper base e s (At c k) = cond (againAt (t .forced) (t .goals) p e c) (deeper c (base + k) s) (giveOf (t .goals) p from c (base + k) s)
+reached t p from deeper base e s Nothing = ok s
+
+-- one direction from a cell that is reached from the point above: `deeper` says what expanding again does, with the same parent
+unfoldable pub followWith : Tables → Plan → ℕ → (Point → Cell → ℕ → State → Out) → Point → Cell → ℕ → ℕ → ℕ → ℕ → State → Out
+followWith t p from deeper above node mask price base e s =
+    cond (hasBit mask (e % 8)) (reached t p from (deeper above) base e s (jumpOf (t .blocked) (t .forced) (t .goals) p e node price)) (ok s)
+
+-- the pruned directions in number order, first steps priced by the travel direction; SAME if the cell is its own parent
+abbrev pub travelled : Tables → Plan → (Point → Cell → ℕ → ℕ → ℕ → ℕ → State → Out) → Point → Cell → ℕ → State → Heading → Out
+travelled t p along above node base s (Toward d) =
+    each
+    (along above node (prunedIn (p .settings .diagonal) (d .number % 8) (byteAt (t .neighbours) (p .w) (node .x) (node .y))) (priceOf (d .number)) base)
+    8 0 s
+travelled t p along above node base s (Refused w) = no (Same above)
+
+-- a cell: `along` says what following one direction does
+unfoldable pub expandWith : Tables → Plan → (Point → Cell → ℕ → ℕ → ℕ → ℕ → State → Out) → Point → Cell → ℕ → State → Out
+expandWith t p along above node base s = travelled t p along above node base s (headingOf above (spotOf (node .x) (node .y)))
+
+-- what expanding again does where m more levels are allowed
+unfoldable pub deeperAt : Tables → Plan → ℕ → ℕ → Point → Cell → ℕ → State → Out
+deeperAt t p from zero above c k s = no Depth
+deeperAt t p from (suc m) above c k s = expandWith t p (followWith t p from (deeperAt t p from m)) above c k s
+
+abbrev pub followAt : Tables → Plan → ℕ → ℕ → Point → Cell → ℕ → ℕ → ℕ → ℕ → State → Out
+followAt t p from depth = followWith t p from (deeperAt t p from depth)
+
+abbrev pub expandAt : Tables → Plan → ℕ → ℕ → Point → Cell → ℕ → State → Out
+expandAt t p from depth = expandWith t p (followAt t p from depth)
+
+-- the cell of a number
+abbrev pub cellOf : ℕ → ℕ → Cell
+cellOf w c = record { x = c % w + 1; y = c / w + 1 }
+
+-- the expansion of a node that has a parent
+unfoldable pub leapOf : Tables → Plan → Expansion
+leapOf t p i k s =
+    expandAt t p i (p .settings .depth) (placePoint p (getD (s .nodes .place) (getD (s .nodes .parent) i 0) 0)) (cellOf (p .w) (getD (s .nodes .place) i 0)) k s
+
+-- a node with a parent, on the grid
+pub record Backed (p : Plan) (place parent : List ℕ) (count from : ℕ) : Type 0 where
+  pub back : getD parent from 0 < count
+  pub landed : getD place from 0 < areaOf p

@@ -1,0 +1,317 @@
+// Expanding a cell and following one direction, which call each other: the remaining depth falls. Successors are offered to the search.
+use goals::Plan;
+use jumps::Cell;
+use jumps::Jump;
+use offers::Mark;
+use offers::Step;
+use points::Heading;
+use points::Point;
+use points::Refusal;
+ghost use mathlib.Core.Path.{_≡_};
+ghost use Prim.Native.Nat.{_+_, _*_, _^_, _<_, _≤_};
+ghost use lib.Dec.{T};
+ghost use lib.ListN.{length};
+ghost use Rattle.points.specs.Plane.{legal};
+ghost use Rattle.goals.specs.Goals.{mostSide, Aimed};
+ghost use Rattle.nodes.specs.Bound.{edgeOf};
+ghost use Rattle.offers.specs.Search.{Lent, outOf, view};
+ghost use Rattle.jumps.specs.Floor.{Sized, Inside};
+ghost use Rattle.expansion.specs.Expand.{tables, Floors, Ready, Backed, againAt, giveOf, followAt, expandAt, cellOf, leapOf};
+ghost use Rattle.expansion.specs.Start.{yieldOf};
+
+mod start;
+
+// Whether a cell that was reached in direction e is expanded again.
+fn again(forced: &[u8], goals: &[i32], p: Plan, e: u8, c: Cell) -> bool
+    requires { ⌜ Sized (now forced) (p .w) (p .h) × (Aimed (now goals) p × Inside p c) ⌝ }
+    ensures { λ r. ⌜ r ≡ againAt (now (forced .entry)) (now (goals .entry)) p e c ⌝ }
+{
+    if !p.settings.improved {
+        return false;
+    }
+    if e % 2 == 1 {
+        return !jumps::stops(forced, goals, p, e, c.x, c.y);
+    }
+    false
+}
+
+// Offers a cell.
+fn give(
+    number: &mut [u32],
+    place: &mut [u32],
+    parent: &mut [u32],
+    cost: &mut [u64],
+    keys: &mut [u64],
+    idx: &mut [u32],
+    goals: &[i32],
+    p: Plan,
+    m: Mark,
+    from: usize,
+    c: Cell,
+    k: u64,
+) -> Step
+    requires { ⌜ Lent (now goals) p (now number) (now place) (now parent) (now cost) (now keys) (now idx) m × (Inside p c × ((from < length (now number)) × (k < 2 ^ 40))) ⌝ }
+    ensures { λ r. ⌜ outOf r (now (number .exit)) (now (place .exit)) (now (parent .exit)) (now (cost .exit)) (now (keys .exit)) (now (idx .exit)) ≡ giveOf (now (goals .entry)) p from c k (view (now (number .entry)) (now (place .entry)) (now (parent .entry)) (now (cost .entry)) (now (keys .entry)) (now (idx .entry)) m) ⌝ }
+{
+    let cell = jumps::number(p.w, c.x, c.y);
+    offers::offer(
+        number,
+        place,
+        parent,
+        cost,
+        keys,
+        idx,
+        goals,
+        p,
+        m,
+        from,
+        cell,
+        k,
+    )
+}
+
+// Expands an inside cell that is reached from the point above at the cost base: its pruned directions in number order. Refuses SAME.
+fn expand(
+    blocked: &[u8],
+    neighbours: &[u8],
+    forced: &[u8],
+    goals: &[i32],
+    number: &mut [u32],
+    place: &mut [u32],
+    parent: &mut [u32],
+    cost: &mut [u64],
+    keys: &mut [u64],
+    idx: &mut [u32],
+    p: Plan,
+    m: Mark,
+    from: usize,
+    above: Point,
+    node: Cell,
+    base: u64,
+    depth: usize,
+) -> Step
+    requires { ⌜ Ready (tables (now blocked) (now neighbours) (now forced) (now goals)) p from above node base depth (now number) (now place) (now parent) (now cost) (now keys) (now idx) m ⌝ }
+    ensures { λ r. ⌜ outOf r (now (number .exit)) (now (place .exit)) (now (parent .exit)) (now (cost .exit)) (now (keys .exit)) (now (idx .exit)) ≡ expandAt (tables (now (blocked .entry)) (now (neighbours .entry)) (now (forced .entry)) (now (goals .entry))) p from depth above node base (view (now (number .entry)) (now (place .entry)) (now (parent .entry)) (now (cost .entry)) (now (keys .entry)) (now (idx .entry)) m) ⌝ }
+{
+    let here = jumps::spot(node.x, node.y);
+    let Heading::Toward(travel) = points::direction_between(above, here) else {
+        return Step::Refused(Refusal::Same(above));
+    };
+    let around = jumps::byte(neighbours, p.w, node.x, node.y);
+    let mask = masks::pruned_mask(p.settings.diagonal, travel.number, around);
+    let price = jumps::price_of(travel.number);
+    let mut n = m;
+    for e in 0..8 {
+        let r = follow(
+            blocked,
+            neighbours,
+            forced,
+            goals,
+            number,
+            place,
+            parent,
+            cost,
+            keys,
+            idx,
+            p,
+            n,
+            from,
+            above,
+            node,
+            mask,
+            e,
+            base,
+            price,
+            depth,
+        );
+        let Step::Done(next) = r else {
+            return r;
+        };
+        n = next;
+    }
+    Step::Done(n)
+}
+
+// Follows direction e if the mask has it: what the jump finds is expanded again or offered. Refuses DEPTH.
+fn follow(
+    blocked: &[u8],
+    neighbours: &[u8],
+    forced: &[u8],
+    goals: &[i32],
+    number: &mut [u32],
+    place: &mut [u32],
+    parent: &mut [u32],
+    cost: &mut [u64],
+    keys: &mut [u64],
+    idx: &mut [u32],
+    p: Plan,
+    m: Mark,
+    from: usize,
+    above: Point,
+    node: Cell,
+    mask: u8,
+    e: u8,
+    base: u64,
+    price: u64,
+    depth: usize,
+) -> Step
+    requires { ⌜ Ready (tables (now blocked) (now neighbours) (now forced) (now goals)) p from above node base depth (now number) (now place) (now parent) (now cost) (now keys) (now idx) m × ((e < 8) × ((0 < price) × (price ≤ 99))) ⌝ }
+    ensures { λ r. ⌜ outOf r (now (number .exit)) (now (place .exit)) (now (parent .exit)) (now (cost .exit)) (now (keys .exit)) (now (idx .exit)) ≡ followAt (tables (now (blocked .entry)) (now (neighbours .entry)) (now (forced .entry)) (now (goals .entry))) p from depth above node mask price base e (view (now (number .entry)) (now (place .entry)) (now (parent .entry)) (now (cost .entry)) (now (keys .entry)) (now (idx .entry)) m) ⌝ }
+{
+    if !masks::bit(mask, e) {
+        return Step::Done(m);
+    }
+    let Jump::At(c, k) = jumps::jump_along(blocked, forced, goals, p, e, node, price) else {
+        return Step::Done(m);
+    };
+    if again(forced, goals, p, e, c) {
+        if depth == 0 {
+            return Step::Refused(Refusal::Depth);
+        }
+        return expand(
+            blocked,
+            neighbours,
+            forced,
+            goals,
+            number,
+            place,
+            parent,
+            cost,
+            keys,
+            idx,
+            p,
+            m,
+            from,
+            above,
+            c,
+            base + k,
+            depth - 1,
+        );
+    }
+    give(
+        number,
+        place,
+        parent,
+        cost,
+        keys,
+        idx,
+        goals,
+        p,
+        m,
+        from,
+        c,
+        base + k,
+    )
+}
+
+// The cell of a number.
+fn cell_of(w: usize, cell: usize) -> Cell
+    requires { ⌜ (0 < w) × (cell ≤ mostSide * mostSide) ⌝ }
+    ensures { λ r. ⌜ r ≡ cellOf w cell ⌝ }
+{
+    Cell {
+        x: cell % w + 1,
+        y: cell / w + 1,
+    }
+}
+
+// Expands a node that has a parent.
+fn leap(
+    blocked: &[u8],
+    neighbours: &[u8],
+    forced: &[u8],
+    goals: &[i32],
+    number: &mut [u32],
+    place: &mut [u32],
+    parent: &mut [u32],
+    cost: &mut [u64],
+    keys: &mut [u64],
+    idx: &mut [u32],
+    p: Plan,
+    m: Mark,
+    from: usize,
+    k: u64,
+) -> Step
+    requires { ⌜ Lent (now goals) p (now number) (now place) (now parent) (now cost) (now keys) (now idx) m × (Floors (tables (now blocked) (now neighbours) (now forced) (now goals)) p × (T (legal (p .start)) × ((from < m .count) × (Backed p (now place) (now parent) (m .count) from × (k + edgeOf mostSide (p .settings .depth) < 2 ^ 40))))) ⌝ }
+    ensures { λ r. ⌜ outOf r (now (number .exit)) (now (place .exit)) (now (parent .exit)) (now (cost .exit)) (now (keys .exit)) (now (idx .exit)) ≡ leapOf (tables (now (blocked .entry)) (now (neighbours .entry)) (now (forced .entry)) (now (goals .entry))) p from k (view (now (number .entry)) (now (place .entry)) (now (parent .entry)) (now (cost .entry)) (now (keys .entry)) (now (idx .entry)) m) ⌝ }
+{
+    let here = place[from] as usize;
+    let up = parent[from] as usize;
+    let back = place[up] as usize;
+    let depth = p.settings.depth;
+    let above = offers::place_point(p, back);
+    let node = cell_of(p.w, here);
+    expand(
+        blocked,
+        neighbours,
+        forced,
+        goals,
+        number,
+        place,
+        parent,
+        cost,
+        keys,
+        idx,
+        p,
+        m,
+        from,
+        above,
+        node,
+        k,
+        depth,
+    )
+}
+
+// Expands a popped node: the start yields its free neighbours, other cells yield jumps.
+pub fn expand_node(
+    blocked: &[u8],
+    neighbours: &[u8],
+    forced: &[u8],
+    goals: &[i32],
+    number: &mut [u32],
+    place: &mut [u32],
+    parent: &mut [u32],
+    cost: &mut [u64],
+    keys: &mut [u64],
+    idx: &mut [u32],
+    p: Plan,
+    m: Mark,
+    from: usize,
+    k: u64,
+) -> Step
+    requires { ⌜ Lent (now goals) p (now number) (now place) (now parent) (now cost) (now keys) (now idx) m × (Floors (tables (now blocked) (now neighbours) (now forced) (now goals)) p × (T (legal (p .start)) × ((from < m .count) × ((0 < from → Backed p (now place) (now parent) (m .count) from) × (k + edgeOf mostSide (p .settings .depth) < 2 ^ 40))))) ⌝ }
+    ensures { λ r. ⌜ outOf r (now (number .exit)) (now (place .exit)) (now (parent .exit)) (now (cost .exit)) (now (keys .exit)) (now (idx .exit)) ≡ yieldOf (tables (now (blocked .entry)) (now (neighbours .entry)) (now (forced .entry)) (now (goals .entry))) p from k (view (now (number .entry)) (now (place .entry)) (now (parent .entry)) (now (cost .entry)) (now (keys .entry)) (now (idx .entry)) m) ⌝ }
+{
+    if from == 0 {
+        return start::spread(
+            blocked,
+            goals,
+            number,
+            place,
+            parent,
+            cost,
+            keys,
+            idx,
+            p,
+            m,
+            from,
+            k,
+        );
+    }
+    leap(
+        blocked,
+        neighbours,
+        forced,
+        goals,
+        number,
+        place,
+        parent,
+        cost,
+        keys,
+        idx,
+        p,
+        m,
+        from,
+        k,
+    )
+}

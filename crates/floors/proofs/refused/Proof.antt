@@ -1,0 +1,23 @@
+use Rattle.floors.proofs.Laws.{new-one}
+use Rattle.floors.specs.Floors.{origin}
+use Rattle.grid.specs.declared.Outcome.the-variants.{Refused as RefusedOutcome}
+use Rattle.points.specs.declared.Refusal.the-variants.{Map as MapBroken}
+use mathlib.Core.Bool.{true}
+use mathlib.Core.Path.{_≡_, ap, _∙_}
+use borrow.Author.Needs.{needs}
+use Rattle.floors.proofs.refused.Statement.{statement}
+use Rattle.floors.proofs.refused.Tie as tie
+use Rattle.floors.proofs.refused.Reads as reads
+use Rattle.floors.proofs.refused.Lts as lts
+use Rattle.grid.proofs.new.Reads as new-reads
+
+new-requires : tie.Need-new-requires
+new-requires c κs = search needs
+
+returns : tie.Need-returns
+returns c =
+    let n = c .before .before .args .line in
+    λ i. record { outcome = RefusedOutcome (MapBroken n); grid = (ap (λ r. r .grid) (c .before .new .ensures) ∙ new-one) i; diagonal = true; start = origin; goal = origin }
+
+pub refused-spec : {M : Type 1} → statement M
+refused-spec = tie.close (tie.spec new-requires returns)

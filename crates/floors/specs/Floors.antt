@@ -1,0 +1,65 @@
+-- A map text as a grid by value, and the route check. Assumes nothing: these are definitions.
+use mathlib.Core.Bool.{Bool, true, false, cond}
+use mathlib.Core.List.{List}
+use Prim.Native.Nat.{ℕ, _*_, _%_}
+use lib.Dec.{eqb}
+use lib.IntN.{ℤ, pos}
+use lib.ListN.{length, getD}
+use Rattle.points.specs.declared.Point.{Point}
+use Rattle.points.specs.declared.Refusal.the-variants.{State, Map as MapBroken, List as ListBroken, BadPoint}
+use Rattle.masks.specs.Masks.{forcedOf}
+use Rattle.cells.specs.Cells.{maskAt, fillTo}
+use Rattle.grid.specs.Grids.{legalOf, zeros, newGrid}
+use Rattle.grid.specs.declared.Grid.{Grid}
+use Rattle.grid.specs.declared.Outcome.the-variants.{Done, Refused as RefusedOutcome}
+use Rattle.grid.specs.declared.Verdict.{Verdict}
+use Rattle.grid.specs.declared.Verdict.the-variants.{Yes, No, Refused}
+use Rattle.maps.specs.Maps.{mapOf, cellsInto}
+use Rattle.maps.specs.declared.Reading.{Reading}
+use Rattle.maps.specs.declared.Reading.the-variants.{Map, Bad}
+use Rattle.paths.specs.Walks.{firstBad, clearOf}
+use Rattle.paths.specs.declared.Bad.{Bad as BadPoints}
+use Rattle.paths.specs.declared.Bad.the-variants.{At, Nowhere}
+use Rattle.floors.specs.declared.MapRead.{MapRead}
+
+-- the grid of a floor's cells: the masks that they give, each cell its own component, and the mark that a rebuild clears
+unfoldable pub floorGrid : ℕ → ℕ → List ℕ → Grid
+floorGrid w h blocked = record {
+  width = w;
+  height = h;
+  dirty = true;
+  blocked = blocked;
+  neighbours = fillTo (maskAt w h blocked) zeros (w * h);
+  forced = fillTo (λ i. forcedOf (getD (fillTo (maskAt w h blocked) zeros (w * h)) i 0)) zeros (w * h);
+  parent = fillTo (λ i. i) zeros (w * h);
+  rank = zeros;
+}
+
+abbrev pub origin : Point
+origin = record { x = pos 0; y = pos 0 }
+
+-- a refused map text comes with a new free grid of 1 by 1
+abbrev pub refusedMap : ℕ → MapRead
+refusedMap n = record { outcome = RefusedOutcome (MapBroken n); grid = newGrid 1 1; diagonal = true; start = origin; goal = origin }
+
+abbrev pub readAs : List ℕ → Reading → MapRead
+readAs blocked (Map m) = record { outcome = Done; grid = floorGrid (m .width) (m .height) blocked; diagonal = m .diagonal; start = m .start; goal = m .goal }
+readAs blocked (Bad n) = refusedMap n
+
+-- the map of a text, its cells in a table of free ones
+unfoldable pub readOf : List ℕ → MapRead
+readOf t = readAs (cellsInto t zeros) (mapOf t)
+
+-- clear exactly if every waypoint after the first is inside and free
+abbrev pub judged : BadPoints → Bool → Verdict
+judged (At p) clear = Refused (BadPoint p)
+judged Nowhere clear = cond clear Yes No
+
+-- STATE, LIST, POINT
+unfoldable pub checkOf : Grid → List ℤ → Verdict
+checkOf g l =
+    cond (legalOf g)
+    (cond (eqb (length l) 0) (Refused ListBroken)
+    (cond (eqb (length l % 2) 1) (Refused ListBroken)
+    (judged (firstBad l) (clearOf (g .width) (g .height) (g .blocked) l))))
+    (Refused State)

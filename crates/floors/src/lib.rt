@@ -1,0 +1,113 @@
+// Map texts as grids by value, and the route check on a grid by value.
+ghost use mathlib.Core.Path.{_≡_};
+ghost use lib.ListN.{length};
+ghost use Rattle.tables.specs.Tables.{Sides};
+ghost use Rattle.floors.specs.Floors.{floorGrid, refusedMap, readOf, checkOf};
+use grid::Grid;
+use grid::Outcome;
+use grid::Verdict;
+use maps::Reading;
+use paths::Bad;
+use points::Point;
+use points::Refusal;
+
+// A map that was read: the grid, whose components are yet to be rebuilt, and what else the text says.
+// A refused text comes with a new free grid of 1 by 1.
+pub struct MapRead {
+    pub outcome: Outcome,
+    pub grid: Grid,
+    pub diagonal: bool,
+    pub start: Point,
+    pub goal: Point,
+}
+
+// The grid of a floor's cells: their masks, each cell its own component, marked dirty.
+fn floor(w: usize, h: usize, blocked: [u8; 4096]) -> Grid
+    requires { ⌜ Sides w h ⌝ }
+    ensures { λ r. ⌜ r ≡ floorGrid w h blocked ⌝ }
+{
+    let n = w * h;
+    let mut neighbours = [0u8; 4096];
+    cells::fill_masks(w, h, &blocked, &mut neighbours, n);
+    let mut forced = [0u8; 4096];
+    cells::fill_forced(&neighbours, &mut forced, n);
+    let mut parent = [0u16; 4096];
+    cells::fill_ident(&mut parent, n);
+    let rank = [0u8; 4096];
+    Grid {
+        width: w,
+        height: h,
+        dirty: true,
+        blocked: blocked,
+        neighbours: neighbours,
+        forced: forced,
+        parent: parent,
+        rank: rank,
+    }
+}
+
+// What comes with a refused text.
+fn refused(line: usize) -> MapRead
+    ensures { λ r. ⌜ r ≡ refusedMap line ⌝ }
+{
+    let none = grid::new(1, 1);
+    let g = none.grid;
+    let origin = Point { x: 0, y: 0 };
+    MapRead {
+        outcome: Outcome::Refused(Refusal::Map(line)),
+        grid: g,
+        diagonal: true,
+        start: origin,
+        goal: origin,
+    }
+}
+
+// The map of a text. Refuses MAP with the first bad or missing line, 0 if too long.
+pub fn read_map(text: &[u8]) -> MapRead
+    ensures { λ r. ⌜ r ≡ readOf (now (text .entry)) ⌝ }
+{
+    let mut blocked = [0u8; 4096];
+    let r = maps::read(text, &mut blocked);
+    match r {
+        Reading::Bad(n) => refused(n),
+        Reading::Map(m) => {
+            let w = m.width;
+            let h = m.height;
+            let start = m.start;
+            let goal = m.goal;
+            MapRead {
+                outcome: Outcome::Done,
+                grid: floor(w, h, blocked),
+                diagonal: m.diagonal,
+                start: start,
+                goal: goal,
+            }
+        }
+    }
+}
+
+// Whether every waypoint after the first is inside and free. Refuses STATE, LIST, POINT.
+pub fn check_route(g: Grid, list: &[i32]) -> Verdict
+    ensures { λ r. ⌜ r ≡ checkOf g (now (list .entry)) ⌝ }
+{
+    if !grid::legal(g) {
+        return Verdict::Refused(Refusal::State);
+    }
+    if list.len() == 0 {
+        return Verdict::Refused(Refusal::List);
+    }
+    if list.len() % 2 == 1 {
+        return Verdict::Refused(Refusal::List);
+    }
+    let bad = paths::bad_point(list);
+    if let Bad::At(p) = bad {
+        return Verdict::Refused(Refusal::BadPoint(p));
+    }
+    let w = g.width;
+    let h = g.height;
+    let blocked = g.blocked;
+    if paths::clear(&blocked, w, h, list) {
+        return Verdict::Yes;
+    }
+    Verdict::No
+}

@@ -1,0 +1,188 @@
+// Jumps over the cells of a grid. A cell's x and y are one more than its column and row, so that a step off the grid is still a number.
+use goals::Plan;
+use points::Point;
+ghost use mathlib.Core.Path.{_≡_};
+ghost use Prim.Native.Nat.{_<_, _≤_};
+ghost use Rattle.goals.specs.Goals.{mostSide, Aimed};
+ghost use Rattle.jumps.specs.Floor.{Sized, Within, Inside, Placed, Held, Floor, spotOf, numberOf, byteAt, freeAt, stopsAt, seesOn, seesEither, turnsAt, haltsAt, priceOf, jumpOf};
+
+pub struct Cell {
+    pub x: usize,
+    pub y: usize,
+}
+
+// A cell with its cost, or nothing.
+pub enum Jump {
+    At(Cell, u64),
+    Nothing,
+}
+
+// The point of a cell that is inside.
+pub fn spot(x: usize, y: usize) -> Point
+    requires { ⌜ Within mostSide mostSide x y ⌝ }
+    ensures { λ r. ⌜ r ≡ spotOf x y ⌝ }
+{
+    Point {
+        x: (x - 1) as i32,
+        y: (y - 1) as i32,
+    }
+}
+
+// The number of a cell that is inside.
+pub fn number(w: usize, x: usize, y: usize) -> usize
+    requires { ⌜ Placed w x y ⌝ }
+    ensures { λ r. ⌜ r ≡ numberOf w x y ⌝ }
+{
+    (y - 1) * w + (x - 1)
+}
+
+// The byte of a table at a cell that is inside.
+pub fn byte(t: &[u8], w: usize, x: usize, y: usize) -> u8
+    requires { ⌜ Held (now t) w x y ⌝ }
+    ensures { λ r. ⌜ r ≡ byteAt (now (t .entry)) w x y ⌝ }
+{
+    let i = number(w, x, y);
+    t[i]
+}
+
+// Whether a cell is inside and free.
+pub fn is_free(blocked: &[u8], w: usize, h: usize, x: usize, y: usize) -> bool
+    requires { ⌜ Sized (now blocked) w h ⌝ }
+    ensures { λ r. ⌜ r ≡ freeAt (now (blocked .entry)) w h x y ⌝ }
+{
+    if x < 1 {
+        return false;
+    }
+    if w < x {
+        return false;
+    }
+    if y < 1 {
+        return false;
+    }
+    if h < y {
+        return false;
+    }
+    byte(blocked, w, x, y) == 0
+}
+
+// The price of a step in direction d.
+pub fn price_of(d: u8) -> u64
+    ensures { λ r. ⌜ r ≡ priceOf d ⌝ }
+{
+    70 + 29 * ((d % 2) as u64)
+}
+
+// Whether an inside cell is a goal or forced for direction d.
+pub fn stops(forced: &[u8], goals: &[i32], p: Plan, d: u8, x: usize, y: usize) -> bool
+    requires { ⌜ Sized (now forced) (p .w) (p .h) × (Aimed (now goals) p × Within (p .w) (p .h) x y) ⌝ }
+    ensures { λ r. ⌜ r ≡ stopsAt (now (forced .entry)) (now (goals .entry)) p d x y ⌝ }
+{
+    if goals::is_goal(goals, p, spot(x, y)) {
+        return true;
+    }
+    masks::bit(byte(forced, p.w, x, y), d)
+}
+
+// Whether a straight jump from an inside cell finds something.
+fn sees_on(blocked: &[u8], forced: &[u8], goals: &[i32], p: Plan, d: u8, x: usize, y: usize) -> bool
+    requires { ⌜ Floor (now blocked) (now forced) (now goals) p × Within (p .w) (p .h) x y ⌝ }
+    ensures { λ r. ⌜ r ≡ seesOn (now (blocked .entry)) (now (forced .entry)) (now (goals .entry)) p d x y ⌝ }
+{
+    let w = p.w;
+    let h = p.h;
+    let ox = points::off_x(d);
+    let oy = points::off_y(d);
+    let mut cx = x;
+    let mut cy = y;
+    loop {
+        cx = cx + ox - 1;
+        cy = cy + oy - 1;
+        if !is_free(blocked, w, h, cx, cy) {
+            return false;
+        }
+        if stops(forced, goals, p, d, cx, cy) {
+            return true;
+        }
+    }
+}
+
+fn sees_either(
+    blocked: &[u8],
+    forced: &[u8],
+    goals: &[i32],
+    p: Plan,
+    d: u8,
+    e: u8,
+    x: usize,
+    y: usize,
+) -> bool
+    requires { ⌜ Floor (now blocked) (now forced) (now goals) p × Within (p .w) (p .h) x y ⌝ }
+    ensures { λ r. ⌜ r ≡ seesEither (now (blocked .entry)) (now (forced .entry)) (now (goals .entry)) p d e x y ⌝ }
+{
+    if sees_on(blocked, forced, goals, p, d, x, y) {
+        return true;
+    }
+    sees_on(blocked, forced, goals, p, e, x, y)
+}
+
+// Whether d is diagonal and a straight jump along x or y finds something.
+fn turns(blocked: &[u8], forced: &[u8], goals: &[i32], p: Plan, d: u8, x: usize, y: usize) -> bool
+    requires { ⌜ Floor (now blocked) (now forced) (now goals) p × ((d < 8) × Within (p .w) (p .h) x y) ⌝ }
+    ensures { λ r. ⌜ r ≡ turnsAt (now (blocked .entry)) (now (forced .entry)) (now (goals .entry)) p d x y ⌝ }
+{
+    if d % 2 == 1 {
+        return sees_either(blocked, forced, goals, p, (d + 7) % 8, (d + 1) % 8, x, y);
+    }
+    false
+}
+
+// Whether a jump in direction d stops at an inside cell.
+fn halts(blocked: &[u8], forced: &[u8], goals: &[i32], p: Plan, d: u8, x: usize, y: usize) -> bool
+    requires { ⌜ Floor (now blocked) (now forced) (now goals) p × ((d < 8) × Within (p .w) (p .h) x y) ⌝ }
+    ensures { λ r. ⌜ r ≡ haltsAt (now (blocked .entry)) (now (forced .entry)) (now (goals .entry)) p d x y ⌝ }
+{
+    if stops(forced, goals, p, d, x, y) {
+        return true;
+    }
+    if turns(blocked, forced, goals, p, d, x, y) {
+        return true;
+    }
+    if p.settings.diagonal {
+        return false;
+    }
+    sees_either(blocked, forced, goals, p, (d + 2) % 8, (d + 6) % 8, x, y)
+}
+
+// A jump in direction d from a cell, its first step at the caller's price, later ones at their own. It finds nothing on leaving free cells.
+pub fn jump_along(
+    blocked: &[u8],
+    forced: &[u8],
+    goals: &[i32],
+    p: Plan,
+    d: u8,
+    from: Cell,
+    price: u64,
+) -> Jump
+    requires { ⌜ Floor (now blocked) (now forced) (now goals) p × ((d < 8) × (Inside p from × (price ≤ 99))) ⌝ }
+    ensures { λ r. ⌜ r ≡ jumpOf (now (blocked .entry)) (now (forced .entry)) (now (goals .entry)) p d from price ⌝ }
+{
+    let w = p.w;
+    let h = p.h;
+    let ox = points::off_x(d);
+    let oy = points::off_y(d);
+    let step = price_of(d);
+    let mut x = from.x;
+    let mut y = from.y;
+    let mut cost = price;
+    loop {
+        x = x + ox - 1;
+        y = y + oy - 1;
+        if !is_free(blocked, w, h, x, y) {
+            return Jump::Nothing;
+        }
+        if halts(blocked, forced, goals, p, d, x, y) {
+            return Jump::At(Cell { x, y }, cost);
+        }
+        cost += step;
+    }
+}

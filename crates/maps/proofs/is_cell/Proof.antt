@@ -1,0 +1,14 @@
+use borrow.Author.Tests.{eq-eqb, ne-eqb}
+use Rattle.maps.proofs.is_cell.Statement.{statement}
+use Rattle.maps.proofs.is_cell.Tie as tie
+use Rattle.maps.proofs.is_cell.Reads as reads
+use Rattle.maps.proofs.is_cell.Lts as lts
+
+returns : tie.Need-returns
+returns c = rw (eq-eqb (c .before .args .b) 46 (c .if1 .taken))
+
+returns-2 : tie.Need-returns-2
+returns-2 c = rw (ne-eqb (c .before .args .b) 46 (c .if1 .left))
+
+pub is-cell-spec : {M : Type 1} → statement M
+is-cell-spec = tie.close (tie.spec returns returns-2)
