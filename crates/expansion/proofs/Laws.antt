@@ -14,33 +14,35 @@ use Rattle.goals.specs.declared.Plan.{Plan}
 use Rattle.goals.specs.Goals.{both}
 use Rattle.offers.specs.Search.{State, Out, ok, no, each}
 use Rattle.jumps.specs.declared.Cell.{Cell}
+use Rattle.jumps.specs.declared.Jump.{Jump}
 use Rattle.jumps.specs.declared.Jump.the-variants.{At, Nothing}
 use Rattle.jumps.specs.Floor.{spotOf, byteAt, jumpOf, priceOf}
-use Rattle.expansion.specs.Expand.{Tables, againAt, giveOf, followWith, expandWith, deeperAt, expandAt}
+use Rattle.expansion.specs.Expand.{Tables, againAt, giveOf, reached, followWith, expandWith, deeperAt, expandAt}
 
 -- three tests that all say yes, the last by saying no
 pub all-of : (a b s r : Bool) → a ≡ true → b ≡ true → r ≡ s → not r ≡ both a (both b (not s))
 all-of a b s r p q e = rw (p, q, e)
 
--- following one direction
+-- following one direction: nothing, or what its jump found
 module _ (t : Tables) (p : Plan) (from : ℕ) (deeper : Point → Cell → ℕ → State → Out) (above : Point) (node : Cell) (mask price base e : ℕ) (s : State) where
   pub follow-off : hasBit mask (e % 8) ≡ false → ok s ≡ followWith t p from deeper above node mask price base e s
   unfolding followWith
   follow-off b = rw b
 
-  module _ (b : hasBit mask (e % 8) ≡ true) where
-    pub follow-none : Nothing ≡ jumpOf (t .blocked) (t .forced) (t .goals) p e node price → ok s ≡ followWith t p from deeper above node mask price base e s
-    unfolding followWith
-    follow-none j = rw (b, ← j)
+  pub follow-on : hasBit mask (e % 8) ≡ true → reached t p from (deeper above) base e s (jumpOf (t .blocked) (t .forced) (t .goals) p e node price) ≡ followWith t p from deeper above node mask price base e s
+  unfolding followWith
+  follow-on b = rw b
 
-    module _ (c : Cell) (k : ℕ) (j : At c k ≡ jumpOf (t .blocked) (t .forced) (t .goals) p e node price) where
-      pub follow-give : againAt (t .forced) (t .goals) p e c ≡ false → giveOf (t .goals) p from c (base + k) s ≡ followWith t p from deeper above node mask price base e s
-      unfolding followWith
-      follow-give a = rw (b, ← j, a)
+module _ (t : Tables) (p : Plan) (from : ℕ) (deeper : Cell → ℕ → State → Out) (base e : ℕ) (s : State) (j : Jump) where
+  pub reached-none : Nothing ≡ j → ok s ≡ reached t p from deeper base e s j
+  reached-none z = rw (← z)
 
-      pub follow-deep : againAt (t .forced) (t .goals) p e c ≡ true → deeper above c (base + k) s ≡ followWith t p from deeper above node mask price base e s
-      unfolding followWith
-      follow-deep a = rw (b, ← j, a)
+  module _ (c : Cell) (k : ℕ) (z : At c k ≡ j) where
+    pub reached-give : againAt (t .forced) (t .goals) p e c ≡ false → giveOf (t .goals) p from c (base + k) s ≡ reached t p from deeper base e s j
+    reached-give a = rw (← z, a)
+
+    pub reached-deep : againAt (t .forced) (t .goals) p e c ≡ true → deeper c (base + k) s ≡ reached t p from deeper base e s j
+    reached-deep a = rw (← z, a)
 
 -- expanding again
 module _ (t : Tables) (p : Plan) (from : ℕ) (above : Point) (c : Cell) (k : ℕ) (s : State) where

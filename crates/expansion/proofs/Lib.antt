@@ -1,4 +1,5 @@
 pub mod Laws
+pub mod Skips
 pub mod Keeps
 pub mod Leaps
 pub mod Starts

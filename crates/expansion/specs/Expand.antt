@@ -1,7 +1,8 @@
 -- What expanding a cell offers, by the remaining depth. Assumes nothing: these are definitions.
-use mathlib.Core.Bool.{Bool, not, cond}
+use mathlib.Core.Path.{_≡_}
+use mathlib.Core.Bool.{Bool, false, not, cond}
 use mathlib.Core.List.{List}
-use Prim.Native.Nat.{ℕ, zero, suc, _+_, _/_, _%_, _^_, _<_}
+use Prim.Native.Nat.{ℕ, zero, suc, _+_, _/_, _%_, _^_, _≤_, _<_}
 use lib.Dec.{T, eqb}
 use lib.IntN.{ℤ}
 use lib.ListN.{length, getD}
@@ -46,6 +47,12 @@ pub record Ready (t : Tables) (p : Plan) (from : ℕ) (above : Point) (node : Ce
   pub inside : Inside p node
   pub known : from < length number
   pub cheap : base + edgeOf mostSide depth < 2 ^ 40
+
+-- a mask has none of the directions from `from` up to e
+pub record Clear (mask from e : ℕ) : Type 0 where
+  pub after : from ≤ e
+  pub low : e ≤ 8
+  pub clear : (k : ℕ) → from ≤ k → k < e → hasBit mask (k % 8) ≡ false
 
 -- expanded again exactly if improved pruning is on, the direction is diagonal and the cell that it reached is neither goal nor forced
 unfoldable pub againAt : List ℕ → List ℤ → Plan → ℕ → Cell → Bool

@@ -8,15 +8,17 @@ use points::Heading;
 use points::Point;
 use points::Refusal;
 ghost use mathlib.Core.Path.{_≡_};
-ghost use Prim.Native.Nat.{_+_, _*_, _^_, _<_, _≤_};
+ghost use mathlib.Core.Bool.{true};
+ghost use Prim.Native.Nat.{_+_, _*_, _%_, _^_, _<_, _≤_};
 ghost use lib.Dec.{T};
 ghost use lib.ListN.{length};
 ghost use Rattle.points.specs.Plane.{legal};
+ghost use Rattle.masks.specs.Masks.{hasBit};
 ghost use Rattle.goals.specs.Goals.{mostSide, Aimed};
 ghost use Rattle.nodes.specs.Bound.{edgeOf};
 ghost use Rattle.offers.specs.Search.{Lent, outOf, view};
-ghost use Rattle.jumps.specs.Floor.{Sized, Inside};
-ghost use Rattle.expansion.specs.Expand.{tables, Floors, Ready, Backed, againAt, giveOf, followAt, expandAt, cellOf, leapOf};
+ghost use Rattle.jumps.specs.Floor.{Sized, Inside, jumpOf};
+ghost use Rattle.expansion.specs.Expand.{tables, Floors, Ready, Backed, Clear, againAt, giveOf, reached, deeperAt, expandAt, cellOf, leapOf};
 ghost use Rattle.expansion.specs.Start.{yieldOf};
 
 mod start;
@@ -70,6 +72,21 @@ fn give(
     )
 }
 
+// The next direction that a mask has, of those at or after the given one; 8 where there is none.
+fn next_of(mask: u8, from: u8) -> u8
+    requires { ⌜ from ≤ 8 ⌝ }
+    ensures { λ r. ⌜ Clear mask from r × (r < 8 → hasBit mask (r % 8) ≡ true) ⌝ }
+{
+    let mut e = from;
+    while e < 8 {
+        if masks::bit(mask, e) {
+            return e;
+        }
+        e += 1;
+    }
+    e
+}
+
 // Expands an inside cell that is reached from the point above at the cost base: its pruned directions in number order. Refuses SAME.
 fn expand(
     blocked: &[u8],
@@ -101,7 +118,8 @@ fn expand(
     let mask = masks::pruned_mask(p.settings.diagonal, travel.number, around);
     let price = jumps::price_of(travel.number);
     let mut n = m;
-    for e in 0..8 {
+    let mut e = next_of(mask, 0);
+    while e < 8 {
         let r = follow(
             blocked,
             neighbours,
@@ -118,7 +136,6 @@ fn expand(
             from,
             above,
             node,
-            mask,
             e,
             base,
             price,
@@ -128,11 +145,12 @@ fn expand(
             return r;
         };
         n = next;
+        e = next_of(mask, e + 1);
     }
     Step::Done(n)
 }
 
-// Follows direction e if the mask has it: what the jump finds is expanded again or offered. Refuses DEPTH.
+// Follows direction e: what the jump finds is expanded again or offered. Refuses DEPTH.
 fn follow(
     blocked: &[u8],
     neighbours: &[u8],
@@ -149,18 +167,14 @@ fn follow(
     from: usize,
     above: Point,
     node: Cell,
-    mask: u8,
     e: u8,
     base: u64,
     price: u64,
     depth: usize,
 ) -> Step
     requires { ⌜ Ready (tables (now blocked) (now neighbours) (now forced) (now goals)) p from above node base depth (now number) (now place) (now parent) (now cost) (now keys) (now idx) m × ((e < 8) × ((0 < price) × (price ≤ 99))) ⌝ }
-    ensures { λ r. ⌜ outOf r (now (number .exit)) (now (place .exit)) (now (parent .exit)) (now (cost .exit)) (now (keys .exit)) (now (idx .exit)) ≡ followAt (tables (now (blocked .entry)) (now (neighbours .entry)) (now (forced .entry)) (now (goals .entry))) p from depth above node mask price base e (view (now (number .entry)) (now (place .entry)) (now (parent .entry)) (now (cost .entry)) (now (keys .entry)) (now (idx .entry)) m) ⌝ }
+    ensures { λ r. ⌜ outOf r (now (number .exit)) (now (place .exit)) (now (parent .exit)) (now (cost .exit)) (now (keys .exit)) (now (idx .exit)) ≡ reached (tables (now (blocked .entry)) (now (neighbours .entry)) (now (forced .entry)) (now (goals .entry))) p from (deeperAt (tables (now (blocked .entry)) (now (neighbours .entry)) (now (forced .entry)) (now (goals .entry))) p from depth above) base e (view (now (number .entry)) (now (place .entry)) (now (parent .entry)) (now (cost .entry)) (now (keys .entry)) (now (idx .entry)) m) (jumpOf (now (blocked .entry)) (now (forced .entry)) (now (goals .entry)) p e node price) ⌝ }
 {
-    if !masks::bit(mask, e) {
-        return Step::Done(m);
-    }
     let Jump::At(c, k) = jumps::jump_along(blocked, forced, goals, p, e, node, price) else {
         return Step::Done(m);
     };

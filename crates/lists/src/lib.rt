@@ -2,6 +2,8 @@
 //
 // A list is a run of blocks, each a length of four bytes and as many bytes. Past a block's end every byte reads as 0, so no
 // place in it is out of bounds.
+pub mod answers;
+
 ghost use mathlib.Core.Path.{_≡_};
 ghost use Prim.Native.Nat.{_≤_, _<_};
 ghost use lib.Ieee.{ofBits, binary32};

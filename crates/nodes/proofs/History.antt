@@ -82,7 +82,7 @@ module _ (edge b c p k : ℕ) (s : Nodes) (d : Sound s) (hc : c < length (s .num
 
 -- ---- the bound in numbers
 
-times-is : (edge n : ℕ) → times edge n ≡ n * edge
+pub times-is : (edge n : ℕ) → times edge n ≡ n * edge
 unfolding times
 times-is edge zero = sym (zero-mul edge)
 times-is edge (suc n) = ap (λ (x : ℕ). x + edge) (times-is edge n) ∙ sym (suc-mul n edge)

@@ -1,7 +1,8 @@
-// Replays the stored list of the Rust's masks, directions and distances, and counts the answers that differ.
+// Replays a list of the Rust's masks, directions and distances from standard input, and counts the answers that differ.
 // The list's form stands at the head of oracle/tools/src/bin/ground.rs.
 ghost use Prim.Native.Nat.{_<_, _≤_};
 use costs::Measure;
+use lists::answers;
 use points::Direction;
 use points::Heading;
 use points::Parts;
@@ -49,21 +50,14 @@ fn point_at(r: &[u8], at: usize) -> Point
     }
 }
 
-fn equal(p: Point, q: Point) -> bool {
-    if p.x == q.x {
-        return p.y == q.y;
-    }
-    false
-}
-
 // Which of two points a refusal carries: 1 the first, 2 the second, 3 neither.
 fn which(p: Point, a: Point, b: Point) -> u32
     ensures { λ r. ⌜ r ≤ 3 ⌝ }
 {
-    if equal(p, a) {
+    if answers::equal(p, a) {
         return 1;
     }
-    if equal(p, b) {
+    if answers::equal(p, b) {
         return 2;
     }
     3
@@ -225,9 +219,9 @@ fn compare(kind: u8, width: usize, s: &[u8]) -> Tally
 }
 
 // The next block, counted.
-fn one_block(fd: i32, t: Totals) -> Totals {
+fn one_block(t: Totals) -> Totals {
     let mut buf = io::large_buffer();
-    let n = lists::next_block(fd, &mut buf);
+    let n = lists::next_block(libc::STDIN_FILENO, &mut buf);
     let mut counts = t.counts;
     if n == 0 {
         return Totals {
@@ -257,28 +251,22 @@ fn one_block(fd: i32, t: Totals) -> Totals {
 }
 
 // Every block. Nothing says that a list ends, so the turns are counted down.
-fn every_block(fd: i32) -> Totals {
+fn every_block() -> Totals {
     let mut t = Totals {
         counts: [0; 9],
         wrong: 0,
         more: true,
     };
-    let mut turns: usize = 1000000;
+    let mut turns: usize = 1000000000;
     while turns > 0 && t.more {
-        t = one_block(fd, t);
+        t = one_block(t);
         turns -= 1;
     }
     t
 }
 
 fn main() {
-    let fd = os::open_read(b"ground.list");
-    if fd < 0 {
-        os::fail(b"ground.list");
-        return;
-    }
-    let t = every_block(fd);
-    libc::close(fd);
+    let t = every_block();
     lists::say(b"forced masks", t.counts[1]);
     lists::say(b"pruned masks, diagonals on", t.counts[2]);
     lists::say(b"pruned masks, diagonals off", t.counts[3]);

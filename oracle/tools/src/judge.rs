@@ -82,6 +82,16 @@ pub fn factor_ok(f: f32) -> bool {
     (0.0..=16.0).contains(&f)
 }
 
+/// What document 01 refuses of a waypoint list's numbers: LIST, then POINT with the first bad point.
+pub fn list_refused(v: &[i32]) -> Option<(u8, Point)> {
+    if v.is_empty() || v.len() % 2 == 1 {
+        return Some((13, Point::new(0, 0)));
+    }
+    let bad = crate::make::points_of(v)
+        .into_iter()
+        .find(|p| !in_range(*p))?;
+    Some((14, bad))
+}
 /// The refusals that come before a search, in document 01's order: SETTING, GOALS, POINT.
 fn refused_before(a: &Ask) -> Option<Answer> {
     let no = |result: u8, point: Point| {

@@ -1,4 +1,5 @@
 //! The form of every list: blocks, each a length (u32) and as many bytes. Numbers are little-endian.
+use crate::rng::Rng;
 use grid_util::point::Point;
 use std::io::Write;
 
@@ -65,6 +66,16 @@ impl Block {
     pub fn is_empty(&self) -> bool {
         self.0.is_empty()
     }
+}
+
+/// The arguments SEED [ROUNDS] of the program of this name.
+pub fn asked(name: &str) -> (Rng, u64) {
+    let a: Vec<u64> = std::env::args()
+        .skip(1)
+        .map(|s| s.parse().expect("a number"))
+        .collect();
+    assert!(matches!(a.len(), 1 | 2), "{} SEED [ROUNDS]", name);
+    (Rng(a[0]), *a.get(1).unwrap_or(&1))
 }
 
 /// The largest block that a list may have.

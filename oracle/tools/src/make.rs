@@ -475,6 +475,12 @@ pub fn any_tables(side: i32, r: &mut Rng) -> Tables {
     if r.pct(35) {
         any_forest(&mut t, r);
     }
+    // any byte but 0 is a blocked cell
+    for b in &mut t.blocked {
+        if *b != 0 && r.pct(30) {
+            *b = r.range(1, 255) as u8
+        }
+    }
     t.dirty = r.pct(30);
     t
 }
@@ -514,4 +520,37 @@ pub fn illegal_tables(side: i32, r: &mut Rng) -> Tables {
     }
     assert!(!t.legal());
     t
+}
+
+/// The numbers of a list of waypoints: aligned and not, repeats, all lengths; some are refused.
+pub fn any_numbers(most: i32, w: i32, h: i32, r: &mut Rng) -> Vec<i32> {
+    let n = match r.below(30) {
+        0 => 0,
+        1 => 1,
+        _ => r.range(1, most),
+    };
+    let mut v = vec![];
+    let mut p = Point::new(r.range(0, w - 1), r.range(0, h - 1));
+    for _ in 0..n {
+        v.extend([p.x, p.y]);
+        p = match r.below(40) {
+            0 => Point::new(r.range(-1024, 1023), p.y),
+            1 => Point::new([-1025, 1024][r.below(2) as usize], p.y),
+            2 => Point::new(p.x, [-1025, 1024, 32_767][r.below(3) as usize]),
+            3 => p,
+            4..=9 => Point::new(r.range(-1, w), r.range(-1, h)),
+            10..=19 => {
+                let (d, k) = (r.range(0, 7), r.range(1, 6));
+                (0..k).fold(p, |q, _| q.moore_neighbor(d))
+            }
+            _ => Point::new(r.range(0, w - 1), r.range(0, h - 1)),
+        };
+    }
+    if r.pct(4) {
+        v.pop();
+    }
+    v
+}
+pub fn points_of(v: &[i32]) -> Vec<Point> {
+    v.chunks(2).map(|c| Point::new(c[0], c[1])).collect()
 }

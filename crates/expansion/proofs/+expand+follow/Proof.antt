@@ -1,7 +1,6 @@
 -- `expansion::expand` and `expansion::follow` meet their contracts. The measure: twice the remaining depth, and one more for a cell.
--- The loop's invariant: what is left to follow gives the answer (`Rounds`). Assumes nothing.
+-- The loop's invariant: what is left to follow gives the answer (`Rounds`), and the mask has the direction that is next. Assumes nothing.
 use borrow.Author.Needs.{needs}
-use borrow.Author.Tests.{not-true, not-false}
 use mathlib.Core.Path.{_≡_, ap, sym, _∙_}
 use mathlib.Core.Bool.{true}
 use Prim.Native.Nat.{ℕ, _+_, _-_, _*_, _%_, _<_}
@@ -18,7 +17,8 @@ use Rattle.jumps.specs.declared.Jump.the-variants.{At}
 use Rattle.jumps.proofs.Laws.{held, wider, spot-legal}
 use Rattle.jumps.proofs.Found.{Landed, jump-found}
 use Rattle.expansion.specs.Expand.{tables, followAt}
-use Rattle.expansion.proofs.Laws.{follow-off, follow-none, follow-give, follow-deep, deeper-none, deeper-more, expand-same, expand-each}
+use Rattle.expansion.proofs.Laws.{follow-on, reached-none, reached-give, reached-deep, deeper-none, deeper-more, expand-same, expand-each}
+use Rattle.expansion.proofs.Skips.{round-skip}
 use Rattle.expansion.proofs.Keeps.{follow-fit}
 use Rattle.expansion.proofs.expand.Reads as expand
 use Rattle.expansion.proofs.expand.Kinds as expand-kinds
@@ -28,11 +28,11 @@ use Rattle.expansion.proofs.follow.Kinds as follow-kinds
 use Rattle.expansion.proofs.+expand+follow.Lts-follow as follow-lts
 use Rattle.expansion.proofs.again.Reads as again-reads
 use Rattle.expansion.proofs.give.Reads as give-reads
+use Rattle.expansion.proofs.next_of.Reads as next-of-reads
 use Rattle.jumps.proofs.byte.Reads as byte-reads
 use Rattle.jumps.proofs.jump_along.Reads as jump-along-reads
 use Rattle.jumps.proofs.price_of.Reads as price-of-reads
 use Rattle.jumps.proofs.spot.Reads as spot-reads
-use Rattle.masks.proofs.bit.Reads as bit-reads
 use Rattle.masks.proofs.pruned_mask.Reads as pruned-mask-reads
 use Rattle.points.proofs.direction_between.Reads as direction-between-reads
 use Rattle.expansion.proofs.+expand+follow.{statement}
@@ -42,7 +42,7 @@ abbrev μ-expand : Measures 10 expand-kinds.ps ℕ
 μ-expand κs a = 2 * a .1 .1 .1 .1 .1 .1 .1 .1 .1 .1 .1 .1 .1 .1 .1 .1 .0 + 1
 
 abbrev μ-follow : Measures 10 follow-kinds.ps ℕ
-μ-follow κs a = 2 * a .1 .1 .1 .1 .1 .1 .1 .1 .1 .1 .1 .1 .1 .1 .1 .1 .1 .1 .1 .0
+μ-follow κs a = 2 * a .1 .1 .1 .1 .1 .1 .1 .1 .1 .1 .1 .1 .1 .1 .1 .1 .1 .1 .0
 
 abbrev expand-at : ℕ → In 10 expand-kinds.ps
 expand-at t = and 10 expand-kinds.ps (is 10 expand-kinds.ps μ-expand t) expand.Pre
@@ -57,14 +57,15 @@ abbrev follow-below : ℕ → In 10 follow-kinds.ps
 follow-below t = and 10 follow-kinds.ps (falls 10 follow-kinds.ps _<_ μ-follow t) follow.Pre
 
 abbrev expand-claims : ℕ → expand-lts.Claims
-expand-claims t = (spot-reads.Asked, spot-reads.Learnt, direction-between-reads.Asked, direction-between-reads.Learnt, byte-reads.Asked, byte-reads.Learnt, pruned-mask-reads.Asked, pruned-mask-reads.Learnt, price-of-reads.Asked, price-of-reads.Learnt, follow-below t, follow.Post)
+expand-claims t = (spot-reads.Asked, spot-reads.Learnt, direction-between-reads.Asked, direction-between-reads.Learnt, byte-reads.Asked, byte-reads.Learnt, pruned-mask-reads.Asked, pruned-mask-reads.Learnt, price-of-reads.Asked, price-of-reads.Learnt, next-of-reads.Asked, next-of-reads.Learnt, follow-below t, follow.Post)
 
 abbrev follow-claims : ℕ → follow-lts.Claims
-follow-claims t = (bit-reads.Asked, bit-reads.Learnt, jump-along-reads.Asked, jump-along-reads.Learnt, again-reads.Asked, again-reads.Learnt, expand-below t, expand.Post, give-reads.Asked, give-reads.Learnt)
+follow-claims t = (jump-along-reads.Asked, jump-along-reads.Learnt, again-reads.Asked, again-reads.Learnt, expand-below t, expand.Post, give-reads.Asked, give-reads.Learnt)
 
 abbrev expand-Inv-loop : expand-lts.InvT-loop
 expand-Inv-loop blocked neighbours forced goals number₀ place₀ parent₀ cost₀ keys₀ idx₀ p from above node base depth around mask price n₀ e₀ number place parent cost keys idx n e =
     Rounds goals p (followAt (tables blocked neighbours forced goals) p from depth above node mask price base) number₀ place₀ parent₀ cost₀ keys₀ idx₀ n₀ number place parent cost keys idx n e
+    × (e < 8 → hasBit mask (e % 8) ≡ true)
 
 abbrev expand-μ-loop : expand-lts.MeasureT-loop
 expand-μ-loop blocked neighbours forced goals number₀ place₀ parent₀ cost₀ keys₀ idx₀ p from above node base depth around mask price n₀ e₀ number place parent cost keys idx n e = 8 - e
@@ -93,15 +94,18 @@ expand-pruned-mask-requires t c κs = search needs
 expand-price-of-requires : (t : ℕ) → expand-lts.Need-price-of-requires (expand-claims t) (expand-at t) expand.Post expand-Inv-loop expand-μ-loop
 expand-price-of-requires t c κs = search needs
 
+expand-next-of-requires : (t : ℕ) → expand-lts.Need-next-of-requires (expand-claims t) (expand-at t) expand.Post expand-Inv-loop expand-μ-loop
+expand-next-of-requires t c κs = search needs
+
 expand-loop-holds : (t : ℕ) → expand-lts.Need-loop-holds (expand-claims t) (expand-at t) expand.Post expand-Inv-loop expand-μ-loop
-expand-loop-holds t c = round-start _ _ _ _ _ _ _ _ _ _ (c .before .before .before .before .before .before .before .before .before .before .before .before .before .before .before .before .before .pre .1 .lent)
+expand-loop-holds t c = (round-skip _ _ _ _ _ _ _ _ _ _ _ _ _ _ _ _ _ _ _ _ _ _ _ _ _ (c .next-of .ensures .0) (round-start _ _ _ _ _ _ _ _ _ _ (c .before .before .before .before .before .before .before .before .before .before .before .before .before .before .before .before .before .before .pre .1 .lent)), c .next-of .ensures .1)
 
 expand-follow-requires : (t : ℕ) → expand-lts.Need-follow-requires (expand-claims t) (expand-at t) expand.Post expand-Inv-loop expand-μ-loop
 expand-follow-requires t c κs =
-    let s = c .before .before .before .before .before .before .before .before .before .before .before .before .before .before .before .before .before .before .before .before .before .before .before .before .before in
+    let s = c .before .before .before .before .before .before .before .before .before .before .before .before .before .before .before .before .before .before .before .before .before .before .before .before .before .before in
     let r = s .pre .1 in
-    let i = c .before .before .before .before .before .before .before .loop .inv in
-    let k = c .before .before .before .before .before .before .before .before .price-of .ensures in (
+    let i = c .before .before .before .before .before .before .before .loop .inv .0 in
+    let k = c .before .before .before .before .before .before .before .before .before .price-of .ensures in (
       omega (arith, s .pre .0),
       (
         record { floors = r .floors; lent = i .lent; seen = r .seen; inside = r .inside; known = omega (arith, r .known, i .sizes .number); cheap = r .cheap },
@@ -116,85 +120,81 @@ expand-enum-told-2 : (t : ℕ) → expand-lts.Need-enum-told-2 (expand-claims t)
 expand-enum-told-2 t c = search needs
 
 expand-same-length : (t : ℕ) → expand-lts.Need-same-length (expand-claims t) (expand-at t) expand.Post expand-Inv-loop expand-μ-loop
-expand-same-length t c = c .before .before .before .before .before .before .before .before .before .before .before .before .before .before .follow .kept .1 .1 .1 .1 .0 ∙ c .before .before .before .before .before .before .before .before .before .before .before .before .before .before .before .before .before .before .before .before .before .before .loop .inv .sizes .number
+expand-same-length t c = c .before .before .before .before .before .before .before .before .before .before .before .before .before .before .follow .kept .1 .1 .1 .1 .0 ∙ c .before .before .before .before .before .before .before .before .before .before .before .before .before .before .before .before .before .before .before .before .before .before .loop .inv .0 .sizes .number
 
 expand-same-length-2 : (t : ℕ) → expand-lts.Need-same-length-2 (expand-claims t) (expand-at t) expand.Post expand-Inv-loop expand-μ-loop
-expand-same-length-2 t c = c .before .before .before .before .before .before .before .before .before .before .before .before .before .before .follow .kept .1 .1 .1 .1 .1 .0 ∙ c .before .before .before .before .before .before .before .before .before .before .before .before .before .before .before .before .before .before .before .before .before .before .loop .inv .sizes .place
+expand-same-length-2 t c = c .before .before .before .before .before .before .before .before .before .before .before .before .before .before .follow .kept .1 .1 .1 .1 .1 .0 ∙ c .before .before .before .before .before .before .before .before .before .before .before .before .before .before .before .before .before .before .before .before .before .before .loop .inv .0 .sizes .place
 
 expand-same-length-3 : (t : ℕ) → expand-lts.Need-same-length-3 (expand-claims t) (expand-at t) expand.Post expand-Inv-loop expand-μ-loop
-expand-same-length-3 t c = c .before .before .before .before .before .before .before .before .before .before .before .before .before .before .follow .kept .1 .1 .1 .1 .1 .1 .0 ∙ c .before .before .before .before .before .before .before .before .before .before .before .before .before .before .before .before .before .before .before .before .before .before .loop .inv .sizes .parent
+expand-same-length-3 t c = c .before .before .before .before .before .before .before .before .before .before .before .before .before .before .follow .kept .1 .1 .1 .1 .1 .1 .0 ∙ c .before .before .before .before .before .before .before .before .before .before .before .before .before .before .before .before .before .before .before .before .before .before .loop .inv .0 .sizes .parent
 
 expand-same-length-4 : (t : ℕ) → expand-lts.Need-same-length-4 (expand-claims t) (expand-at t) expand.Post expand-Inv-loop expand-μ-loop
-expand-same-length-4 t c = c .before .before .before .before .before .before .before .before .before .before .before .before .before .before .follow .kept .1 .1 .1 .1 .1 .1 .1 .0 ∙ c .before .before .before .before .before .before .before .before .before .before .before .before .before .before .before .before .before .before .before .before .before .before .loop .inv .sizes .cost
+expand-same-length-4 t c = c .before .before .before .before .before .before .before .before .before .before .before .before .before .before .follow .kept .1 .1 .1 .1 .1 .1 .1 .0 ∙ c .before .before .before .before .before .before .before .before .before .before .before .before .before .before .before .before .before .before .before .before .before .before .loop .inv .0 .sizes .cost
 
 expand-same-length-5 : (t : ℕ) → expand-lts.Need-same-length-5 (expand-claims t) (expand-at t) expand.Post expand-Inv-loop expand-μ-loop
-expand-same-length-5 t c = c .before .before .before .before .before .before .before .before .before .before .before .before .before .before .follow .kept .1 .1 .1 .1 .1 .1 .1 .1 .0 ∙ c .before .before .before .before .before .before .before .before .before .before .before .before .before .before .before .before .before .before .before .before .before .before .loop .inv .sizes .keys
+expand-same-length-5 t c = c .before .before .before .before .before .before .before .before .before .before .before .before .before .before .follow .kept .1 .1 .1 .1 .1 .1 .1 .1 .0 ∙ c .before .before .before .before .before .before .before .before .before .before .before .before .before .before .before .before .before .before .before .before .before .before .loop .inv .0 .sizes .keys
 
 expand-same-length-6 : (t : ℕ) → expand-lts.Need-same-length-6 (expand-claims t) (expand-at t) expand.Post expand-Inv-loop expand-μ-loop
-expand-same-length-6 t c = c .before .before .before .before .before .before .before .before .before .before .before .before .before .before .follow .kept .1 .1 .1 .1 .1 .1 .1 .1 .1 .0 ∙ c .before .before .before .before .before .before .before .before .before .before .before .before .before .before .before .before .before .before .before .before .before .before .loop .inv .sizes .idx
+expand-same-length-6 t c = c .before .before .before .before .before .before .before .before .before .before .before .before .before .before .follow .kept .1 .1 .1 .1 .1 .1 .1 .1 .1 .0 ∙ c .before .before .before .before .before .before .before .before .before .before .before .before .before .before .before .before .before .before .before .before .before .before .loop .inv .0 .sizes .idx
 
 expand-returns-2 : (t : ℕ) → expand-lts.Need-returns-2 (expand-claims t) (expand-at t) expand.Post expand-Inv-loop expand-μ-loop
 expand-returns-2 t c =
-    round-halt _ _ _ _ _ _ _ _ _ _ _ _ _ _ _ _ _ _ (c .before .before .before .before .before .before .before .before .before .before .before .before .before .before .before .before .before .before .before .before .before .before .loop .inv) _ _ _ _ _ _ _ (c .before .before .before .before .before .before .before .before .before .before .before .before .before .before .before .before .before .before .before .before .before .loop-test .taken) (c .before .before .before .before .before .before .before .before .before .before .before .before .before .before .follow .ensures) _ (c .enum-told2 .given .1)
+    round-halt _ _ _ _ _ _ _ _ _ _ _ _ _ _ _ _ _ _ (c .before .before .before .before .before .before .before .before .before .before .before .before .before .before .before .before .before .before .before .before .before .before .loop .inv .0) _ _ _ _ _ _ _ (c .before .before .before .before .before .before .before .before .before .before .before .before .before .before .before .before .before .before .before .before .before .loop-test .taken) (c .before .before .before .before .before .before .before .before .before .before .before .before .before .before .follow .ensures ∙ follow-on _ _ _ _ _ _ _ _ _ _ _ (c .before .before .before .before .before .before .before .before .before .before .before .before .before .before .before .before .before .before .before .before .before .before .loop .inv .1 (c .before .before .before .before .before .before .before .before .before .before .before .before .before .before .before .before .before .before .before .before .before .loop-test .taken))) _ (c .enum-told2 .given .1)
     ∙ expand-each _ _ _ _ _ _ _ _ _ _
-    (sym (c .before .before .before .before .before .before .before .before .before .before .before .before .before .before .before .before .before .before .before .before .before .before .before .before .before .before .before .travel .given .1) ∙ c .before .before .before .before .before .before .before .before .before .before .before .before .before .before .before .before .before .before .before .before .before .before .before .before .before .before .before .before .before .direction-between .ensures ∙ ap (headingOf (c .before .before .before .before .before .before .before .before .before .before .before .before .before .before .before .before .before .before .before .before .before .before .before .before .before .before .before .before .before .before .before .before .before .before .before .before .before .before .before .before .args .above)) (c .before .before .before .before .before .before .before .before .before .before .before .before .before .before .before .before .before .before .before .before .before .before .before .before .before .before .before .before .before .before .spot .ensures))
-    (c .before .before .before .before .before .before .before .before .before .before .before .before .before .before .before .before .before .before .before .before .before .before .before .before .pruned-mask .ensures ∙ ap (prunedIn (c .before .before .before .before .before .before .before .before .before .before .before .before .before .before .before .before .before .before .before .before .before .before .before .before .before .before .before .before .before .before .before .before .before .before .before .before .before .before .before .before .args .p .settings .diagonal) (c .before .before .before .before .before .before .before .before .before .before .before .before .before .before .before .before .before .before .before .before .before .before .before .before .before .before .before .travel .given .0 .0 .number % 8)) (c .before .before .before .before .before .before .before .before .before .before .before .before .before .before .before .before .before .before .before .before .before .before .before .before .before .byte .ensures))
-    (c .before .before .before .before .before .before .before .before .before .before .before .before .before .before .before .before .before .before .before .before .before .before .before .price-of .ensures)
+    (sym (c .before .before .before .before .before .before .before .before .before .before .before .before .before .before .before .before .before .before .before .before .before .before .before .before .before .before .before .before .travel .given .1) ∙ c .before .before .before .before .before .before .before .before .before .before .before .before .before .before .before .before .before .before .before .before .before .before .before .before .before .before .before .before .before .before .direction-between .ensures ∙ ap (headingOf (c .before .before .before .before .before .before .before .before .before .before .before .before .before .before .before .before .before .before .before .before .before .before .before .before .before .before .before .before .before .before .before .before .before .before .before .before .before .before .before .before .before .args .above)) (c .before .before .before .before .before .before .before .before .before .before .before .before .before .before .before .before .before .before .before .before .before .before .before .before .before .before .before .before .before .before .before .spot .ensures))
+    (c .before .before .before .before .before .before .before .before .before .before .before .before .before .before .before .before .before .before .before .before .before .before .before .before .before .pruned-mask .ensures ∙ ap (prunedIn (c .before .before .before .before .before .before .before .before .before .before .before .before .before .before .before .before .before .before .before .before .before .before .before .before .before .before .before .before .before .before .before .before .before .before .before .before .before .before .before .before .before .args .p .settings .diagonal) (c .before .before .before .before .before .before .before .before .before .before .before .before .before .before .before .before .before .before .before .before .before .before .before .before .before .before .before .before .travel .given .0 .0 .number % 8)) (c .before .before .before .before .before .before .before .before .before .before .before .before .before .before .before .before .before .before .before .before .before .before .before .before .before .before .byte .ensures))
+    (c .before .before .before .before .before .before .before .before .before .before .before .before .before .before .before .before .before .before .before .before .before .before .before .before .price-of .ensures)
 
-expand-add-e : (t : ℕ) → expand-lts.Need-add-e (expand-claims t) (expand-at t) expand.Post expand-Inv-loop expand-μ-loop
-expand-add-e t c = omega (arith, c .before .before .before .before .before .before .before .before .before .before .before .before .before .before .before .before .before .before .before .before .before .before .loop-test .taken)
+expand-add-next-of : (t : ℕ) → expand-lts.Need-add-next-of (expand-claims t) (expand-at t) expand.Post expand-Inv-loop expand-μ-loop
+expand-add-next-of t c = omega (arith, c .before .before .before .before .before .before .before .before .before .before .before .before .before .before .before .before .before .before .before .before .before .before .loop-test .taken)
+
+expand-next-of-requires-2 : (t : ℕ) → expand-lts.Need-next-of-requires-2 (expand-claims t) (expand-at t) expand.Post expand-Inv-loop expand-μ-loop
+expand-next-of-requires-2 t c κs = omega (arith, c .before .before .before .before .before .before .before .before .before .before .before .before .before .before .before .before .before .before .before .before .before .before .loop-test .taken)
 
 expand-loop-less : (t : ℕ) → expand-lts.Need-loop-less (expand-claims t) (expand-at t) expand.Post expand-Inv-loop expand-μ-loop
-expand-loop-less t c = omega (arith, c .before .before .before .before .before .before .before .before .before .before .before .before .before .before .before .before .before .before .before .before .before .before .loop-test .taken)
+expand-loop-less t c = omega (arith, c .before .before .before .before .before .before .before .before .before .before .before .before .before .before .before .before .before .before .before .before .before .before .before .loop-test .taken, c .next-of2 .ensures .0 .after)
 
 expand-loop-again : (t : ℕ) → expand-lts.Need-loop-again (expand-claims t) (expand-at t) expand.Post expand-Inv-loop expand-μ-loop
 expand-loop-again t c =
-    let s = c .before .before .before .before .before .before .before .before .before .before .before .before .before .before .before .before .before .before .before .before .before .before .before .before .before .before .before .before .before .before .before .before .before .before .before .before .before .before .before .before .before in
+    let s = c .before .before .before .before .before .before .before .before .before .before .before .before .before .before .before .before .before .before .before .before .before .before .before .before .before .before .before .before .before .before .before .before .before .before .before .before .before .before .before .before .before .before .before in
     let r = s .pre .1 in
-    let k = c .before .before .before .before .before .before .before .before .before .before .before .before .before .before .before .before .before .before .before .before .before .before .before .before .price-of .ensures in
-    round-turn _ _ _ _ _ _ _ _ _ _ _ _ _ _ _ _ _ _ (c .before .before .before .before .before .before .before .before .before .before .before .before .before .before .before .before .before .before .before .before .before .before .before .loop .inv) _ _ _ _ _ _ _ (c .before .before .before .before .before .before .before .before .before .before .before .before .before .before .before .before .before .before .before .before .before .before .loop-test .taken) (c .before .before .before .before .before .before .before .before .before .before .before .before .before .before .before .follow .ensures) _ (c .before .r .given .1)
-    (λ u v f q e. follow-fit (tables (s .args .blocked .now) (s .args .neighbours .now) (s .args .forced .now) (s .args .goals .now)) (s .args .p) (s .args .from) (length (s .args .number .now)) (r .lent .floor) _ _ _ _ _ _ _ (r .floors .sized .wide) (r .floors .sized .high) (r .inside) (omega (arith, k)) (omega (arith, k)) u v f q e)
-    (c .before .before .before .before .before .before .before .before .before .before .before .before .before .before .before .follow .kept .1 .1 .1 .1 .0) (c .before .before .before .before .before .before .before .before .before .before .before .before .before .before .before .follow .kept .1 .1 .1 .1 .1 .0) (c .before .before .before .before .before .before .before .before .before .before .before .before .before .before .before .follow .kept .1 .1 .1 .1 .1 .1 .0) (c .before .before .before .before .before .before .before .before .before .before .before .before .before .before .before .follow .kept .1 .1 .1 .1 .1 .1 .1 .0) (c .before .before .before .before .before .before .before .before .before .before .before .before .before .before .before .follow .kept .1 .1 .1 .1 .1 .1 .1 .1 .0) (c .before .before .before .before .before .before .before .before .before .before .before .before .before .before .before .follow .kept .1 .1 .1 .1 .1 .1 .1 .1 .1 .0)
+    let k = c .before .before .before .before .before .before .before .before .before .before .before .before .before .before .before .before .before .before .before .before .before .before .before .before .before .before .price-of .ensures in (
+      round-skip _ _ _ _ _ _ _ _ _ _ _ _ _ _ _ _ _ _ _ _ _ _ _ _ _ (c .next-of2 .ensures .0)
+          (round-turn _ _ _ _ _ _ _ _ _ _ _ _ _ _ _ _ _ _ (c .before .before .before .before .before .before .before .before .before .before .before .before .before .before .before .before .before .before .before .before .before .before .before .before .loop .inv .0) _ _ _ _ _ _ _ (c .before .before .before .before .before .before .before .before .before .before .before .before .before .before .before .before .before .before .before .before .before .before .before .loop-test .taken) (c .before .before .before .before .before .before .before .before .before .before .before .before .before .before .before .before .follow .ensures ∙ follow-on _ _ _ _ _ _ _ _ _ _ _ (c .before .before .before .before .before .before .before .before .before .before .before .before .before .before .before .before .before .before .before .before .before .before .before .before .loop .inv .1 (c .before .before .before .before .before .before .before .before .before .before .before .before .before .before .before .before .before .before .before .before .before .before .before .loop-test .taken))) _ (c .before .before .r .given .1)
+          (λ u v f q e. follow-fit (tables (s .args .blocked .now) (s .args .neighbours .now) (s .args .forced .now) (s .args .goals .now)) (s .args .p) (s .args .from) (length (s .args .number .now)) (r .lent .floor) _ _ _ _ _ _ _ (r .floors .sized .wide) (r .floors .sized .high) (r .inside) (omega (arith, k)) (omega (arith, k)) u v f q e)
+          (c .before .before .before .before .before .before .before .before .before .before .before .before .before .before .before .before .follow .kept .1 .1 .1 .1 .0) (c .before .before .before .before .before .before .before .before .before .before .before .before .before .before .before .before .follow .kept .1 .1 .1 .1 .1 .0) (c .before .before .before .before .before .before .before .before .before .before .before .before .before .before .before .before .follow .kept .1 .1 .1 .1 .1 .1 .0) (c .before .before .before .before .before .before .before .before .before .before .before .before .before .before .before .before .follow .kept .1 .1 .1 .1 .1 .1 .1 .0) (c .before .before .before .before .before .before .before .before .before .before .before .before .before .before .before .before .follow .kept .1 .1 .1 .1 .1 .1 .1 .1 .0) (c .before .before .before .before .before .before .before .before .before .before .before .before .before .before .before .before .follow .kept .1 .1 .1 .1 .1 .1 .1 .1 .1 .0)),
+      c .next-of2 .ensures .1,
+    )
 
 expand-same-length-7 : (t : ℕ) → expand-lts.Need-same-length-7 (expand-claims t) (expand-at t) expand.Post expand-Inv-loop expand-μ-loop
-expand-same-length-7 t c = c .before .loop .inv .sizes .number
+expand-same-length-7 t c = c .before .loop .inv .0 .sizes .number
 
 expand-same-length-8 : (t : ℕ) → expand-lts.Need-same-length-8 (expand-claims t) (expand-at t) expand.Post expand-Inv-loop expand-μ-loop
-expand-same-length-8 t c = c .before .loop .inv .sizes .place
+expand-same-length-8 t c = c .before .loop .inv .0 .sizes .place
 
 expand-same-length-9 : (t : ℕ) → expand-lts.Need-same-length-9 (expand-claims t) (expand-at t) expand.Post expand-Inv-loop expand-μ-loop
-expand-same-length-9 t c = c .before .loop .inv .sizes .parent
+expand-same-length-9 t c = c .before .loop .inv .0 .sizes .parent
 
 expand-same-length-10 : (t : ℕ) → expand-lts.Need-same-length-10 (expand-claims t) (expand-at t) expand.Post expand-Inv-loop expand-μ-loop
-expand-same-length-10 t c = c .before .loop .inv .sizes .cost
+expand-same-length-10 t c = c .before .loop .inv .0 .sizes .cost
 
 expand-same-length-11 : (t : ℕ) → expand-lts.Need-same-length-11 (expand-claims t) (expand-at t) expand.Post expand-Inv-loop expand-μ-loop
-expand-same-length-11 t c = c .before .loop .inv .sizes .keys
+expand-same-length-11 t c = c .before .loop .inv .0 .sizes .keys
 
 expand-same-length-12 : (t : ℕ) → expand-lts.Need-same-length-12 (expand-claims t) (expand-at t) expand.Post expand-Inv-loop expand-μ-loop
-expand-same-length-12 t c = c .before .loop .inv .sizes .idx
+expand-same-length-12 t c = c .before .loop .inv .0 .sizes .idx
 
 expand-returns-3 : (t : ℕ) → expand-lts.Need-returns-3 (expand-claims t) (expand-at t) expand.Post expand-Inv-loop expand-μ-loop
 expand-returns-3 t c =
-    round-end _ _ _ _ _ _ _ _ _ _ _ _ _ _ _ _ _ _ (c .before .loop .inv) (c .loop-test .left)
+    round-end _ _ _ _ _ _ _ _ _ _ _ _ _ _ _ _ _ _ (c .before .loop .inv .0) (c .loop-test .left)
     ∙ expand-each _ _ _ _ _ _ _ _ _ _
-    (sym (c .before .before .before .before .before .before .travel .given .1) ∙ c .before .before .before .before .before .before .before .before .direction-between .ensures ∙ ap (headingOf (c .before .before .before .before .before .before .before .before .before .before .before .before .before .before .before .before .before .before .before .args .above)) (c .before .before .before .before .before .before .before .before .before .spot .ensures))
-    (c .before .before .before .pruned-mask .ensures ∙ ap (prunedIn (c .before .before .before .before .before .before .before .before .before .before .before .before .before .before .before .before .before .before .before .args .p .settings .diagonal) (c .before .before .before .before .before .before .travel .given .0 .0 .number % 8)) (c .before .before .before .before .byte .ensures))
-    (c .before .before .price-of .ensures)
-
-follow-bit-requires : (t : ℕ) → follow-lts.Need-bit-requires (follow-claims t) (follow-at t) follow.Post
-follow-bit-requires t c κs = search needs
-
-follow-returns : (t : ℕ) → follow-lts.Need-returns (follow-claims t) (follow-at t) follow.Post
-follow-returns t c = follow-off _ _ _ _ _ _ _ _ _ _ _ (sym (c .before .bit .ensures) ∙ not-true _ (c .if1 .taken))
-
--- past the first test the mask has the direction
-open-bit : (t : ℕ) (c : follow-lts.Else1 (follow-claims t) (follow-at t) follow.Post) → hasBit (c .before .before .before .before .before .before .before .before .before .before .before .args .mask) (c .before .before .before .before .before .before .before .before .before .before .before .args .e % 8) ≡ true
-open-bit t c = sym (c .before .bit .ensures) ∙ not-false _ (c .if1 .left)
+    (sym (c .before .before .before .before .before .before .before .travel .given .1) ∙ c .before .before .before .before .before .before .before .before .before .direction-between .ensures ∙ ap (headingOf (c .before .before .before .before .before .before .before .before .before .before .before .before .before .before .before .before .before .before .before .before .args .above)) (c .before .before .before .before .before .before .before .before .before .before .spot .ensures))
+    (c .before .before .before .before .pruned-mask .ensures ∙ ap (prunedIn (c .before .before .before .before .before .before .before .before .before .before .before .before .before .before .before .before .before .before .before .before .args .p .settings .diagonal) (c .before .before .before .before .before .before .before .travel .given .0 .0 .number % 8)) (c .before .before .before .before .before .byte .ensures))
+    (c .before .before .before .price-of .ensures)
 
 follow-jump-along-requires : (t : ℕ) → follow-lts.Need-jump-along-requires (follow-claims t) (follow-at t) follow.Post
 follow-jump-along-requires t c κs =
-    let q = c .before .before .before .before .before .before .before .before .before .before .before .pre .1 in
+    let q = c .before .before .before .before .before .before .before .before .before .pre .1 in
     (record { sized = q .0 .floors .sized; sized-forced = q .0 .floors .sized-forced; aimed = q .0 .lent .aimed }, (q .1 .0, (q .0 .inside, q .1 .1 .1)))
 
 follow-enum-known-c : (t : ℕ) → follow-lts.Need-enum-known-c (follow-claims t) (follow-at t) follow.Post
@@ -203,36 +203,36 @@ follow-enum-known-c t c = search needs
 follow-enum-told : (t : ℕ) → follow-lts.Need-enum-told (follow-claims t) (follow-at t) follow.Post
 follow-enum-told t c = search needs
 
-follow-returns-2 : (t : ℕ) → follow-lts.Need-returns-2 (follow-claims t) (follow-at t) follow.Post
-follow-returns-2 t c = follow-none _ _ _ _ _ _ _ _ _ _ _ (open-bit t (c .before .before .before)) (sym (c .enum-told .given .1) ∙ c .before .before .jump-along .ensures)
+follow-returns : (t : ℕ) → follow-lts.Need-returns (follow-claims t) (follow-at t) follow.Post
+follow-returns t c = reached-none _ _ _ _ _ _ _ _ (sym (c .enum-told .given .1) ∙ c .before .before .jump-along .ensures)
 
 -- what the jump found, and what that says
-jumped : (t : ℕ) (c : follow-lts.After-c (follow-claims t) (follow-at t) follow.Post) → At (c .c .given .0 .0) (c .c .given .0 .1 .0) ≡ jumpOf (c .before .before .before .before .before .before .before .before .before .before .before .before .before .before .args .blocked .now) (c .before .before .before .before .before .before .before .before .before .before .before .before .before .before .args .forced .now) (c .before .before .before .before .before .before .before .before .before .before .before .before .before .before .args .goals .now) (c .before .before .before .before .before .before .before .before .before .before .before .before .before .before .args .p) (c .before .before .before .before .before .before .before .before .before .before .before .before .before .before .args .e) (c .before .before .before .before .before .before .before .before .before .before .before .before .before .before .args .node) (c .before .before .before .before .before .before .before .before .before .before .before .before .before .before .args .price)
+jumped : (t : ℕ) (c : follow-lts.After-c (follow-claims t) (follow-at t) follow.Post) → At (c .c .given .0 .0) (c .c .given .0 .1 .0) ≡ jumpOf (c .before .before .before .before .before .before .before .before .before .before .before .before .args .blocked .now) (c .before .before .before .before .before .before .before .before .before .before .before .before .args .forced .now) (c .before .before .before .before .before .before .before .before .before .before .before .before .args .goals .now) (c .before .before .before .before .before .before .before .before .before .before .before .before .args .p) (c .before .before .before .before .before .before .before .before .before .before .before .before .args .e) (c .before .before .before .before .before .before .before .before .before .before .before .before .args .node) (c .before .before .before .before .before .before .before .before .before .before .before .before .args .price)
 jumped t c = sym (c .c .given .1) ∙ c .before .before .jump-along .ensures
 
-fine : (t : ℕ) (c : follow-lts.After-c (follow-claims t) (follow-at t) follow.Post) → Landed (c .before .before .before .before .before .before .before .before .before .before .before .before .before .before .args .blocked .now) (c .before .before .before .before .before .before .before .before .before .before .before .before .before .before .args .p) mostSide (c .before .before .before .before .before .before .before .before .before .before .before .before .before .before .args .price) (c .before .before .before .before .before .before .before .before .before .before .before .before .before .before .args .node) (c .c .given .0 .0) (c .c .given .0 .1 .0)
+fine : (t : ℕ) (c : follow-lts.After-c (follow-claims t) (follow-at t) follow.Post) → Landed (c .before .before .before .before .before .before .before .before .before .before .before .before .args .blocked .now) (c .before .before .before .before .before .before .before .before .before .before .before .before .args .p) mostSide (c .before .before .before .before .before .before .before .before .before .before .before .before .args .price) (c .before .before .before .before .before .before .before .before .before .before .before .before .args .node) (c .c .given .0 .0) (c .c .given .0 .1 .0)
 fine t c =
-    let q = c .before .before .before .before .before .before .before .before .before .before .before .before .before .before .pre .1 in
+    let q = c .before .before .before .before .before .before .before .before .before .before .before .before .pre .1 in
     jump-found _ _ _ _ mostSide _ _ _ _ _ (q .0 .floors .sized .wide) (q .0 .floors .sized .high) (q .0 .inside) (q .1 .1 .1) (sym (jumped t c))
 
 follow-again-requires : (t : ℕ) → follow-lts.Need-again-requires (follow-claims t) (follow-at t) follow.Post
-follow-again-requires t c κs = let q = c .before .before .before .before .before .before .before .before .before .before .before .before .before .before .before .pre .1 in (q .0 .floors .sized-forced, (q .0 .lent .aimed, fine t (c .before) .inside))
+follow-again-requires t c κs = let q = c .before .before .before .before .before .before .before .before .before .before .before .before .before .pre .1 in (q .0 .floors .sized-forced, (q .0 .lent .aimed, fine t (c .before) .inside))
 
-follow-returns-3 : (t : ℕ) → follow-lts.Need-returns-3 (follow-claims t) (follow-at t) follow.Post
-follow-returns-3 t c = deeper-none _ _ _ _ _ _ _ _ (c .if3 .taken) ∙ follow-deep _ _ _ _ _ _ _ _ _ _ _ (open-bit t (c .before .before .before .before .before .before .before)) _ _ (jumped t (c .before .before .before .before)) (sym (c .before .before .again .ensures) ∙ c .before .if2 .taken)
+follow-returns-2 : (t : ℕ) → follow-lts.Need-returns-2 (follow-claims t) (follow-at t) follow.Post
+follow-returns-2 t c = deeper-none _ _ _ _ _ _ _ _ (c .if2 .taken) ∙ reached-deep _ _ _ _ _ _ _ _ _ _ (jumped t (c .before .before .before .before)) (sym (c .before .before .again .ensures) ∙ c .before .if1 .taken)
 
 follow-add-expand : (t : ℕ) → follow-lts.Need-add-expand (follow-claims t) (follow-at t) follow.Post
-follow-add-expand t c = let f = fine t (c .before .before .before .before .before .before .before .before .before .before) in omega (arith, f .most, c .before .before .before .before .before .before .before .before .before .before .before .before .before .before .before .before .before .before .before .before .before .before .before .before .pre .1 .0 .cheap)
+follow-add-expand t c = let f = fine t (c .before .before .before .before .before .before .before .before .before .before) in omega (arith, f .most, c .before .before .before .before .before .before .before .before .before .before .before .before .before .before .before .before .before .before .before .before .before .before .pre .1 .0 .cheap)
 
 follow-sub-expand : (t : ℕ) → follow-lts.Need-sub-expand (follow-claims t) (follow-at t) follow.Post
-follow-sub-expand t c = omega (arith, c .before .before .before .before .before .before .if3 .left)
+follow-sub-expand t c = omega (arith, c .before .before .before .before .before .before .if2 .left)
 
 follow-expand-requires : (t : ℕ) → follow-lts.Need-expand-requires (follow-claims t) (follow-at t) follow.Post
 follow-expand-requires t c κs =
     let f = fine t (c .before .before .before .before .before .before .before .before .before .before) in
-    let s = c .before .before .before .before .before .before .before .before .before .before .before .before .before .before .before .before .before .before .before .before .before .before .before .before in
+    let s = c .before .before .before .before .before .before .before .before .before .before .before .before .before .before .before .before .before .before .before .before .before .before in
     let r = s .pre .1 .0 in
-    let m = c .before .before .before .before .before .before .if3 .left in
+    let m = c .before .before .before .before .before .before .if2 .left in
     (omega (arith, s .pre .0, m), record { floors = r .floors; lent = r .lent; seen = r .seen; inside = f .inside; known = r .known; cheap = omega (arith, r .cheap, f .most, m) })
 
 follow-same-length : (t : ℕ) → follow-lts.Need-same-length (follow-claims t) (follow-at t) follow.Post
@@ -253,17 +253,17 @@ follow-same-length-5 t c = c .before .before .before .before .before .before .be
 follow-same-length-6 : (t : ℕ) → follow-lts.Need-same-length-6 (follow-claims t) (follow-at t) follow.Post
 follow-same-length-6 t c = c .before .before .before .before .before .before .before .before .before .before .before .before .expand .kept .1 .1 .1 .1 .1 .1 .1 .1 .1 .0
 
-follow-returns-4 : (t : ℕ) → follow-lts.Need-returns-4 (follow-claims t) (follow-at t) follow.Post
-follow-returns-4 t c =
+follow-returns-3 : (t : ℕ) → follow-lts.Need-returns-3 (follow-claims t) (follow-at t) follow.Post
+follow-returns-3 t c =
     c .before .before .before .before .before .before .before .before .before .before .before .before .expand .ensures
-    ∙ deeper-more _ _ _ _ _ _ _ _ (c .before .before .before .before .before .before .before .before .before .before .before .before .before .before .before .before .before .before .before .if3 .left)
-    ∙ follow-deep _ _ _ _ _ _ _ _ _ _ _ (open-bit t (c .before .before .before .before .before .before .before .before .before .before .before .before .before .before .before .before .before .before .before .before .before .before .before .before .before .before)) _ _ (jumped t (c .before .before .before .before .before .before .before .before .before .before .before .before .before .before .before .before .before .before .before .before .before .before .before)) (sym (c .before .before .before .before .before .before .before .before .before .before .before .before .before .before .before .before .before .before .before .before .before .again .ensures) ∙ c .before .before .before .before .before .before .before .before .before .before .before .before .before .before .before .before .before .before .before .before .if2 .taken)
+    ∙ deeper-more _ _ _ _ _ _ _ _ (c .before .before .before .before .before .before .before .before .before .before .before .before .before .before .before .before .before .before .before .if2 .left)
+    ∙ reached-deep _ _ _ _ _ _ _ _ _ _ (jumped t (c .before .before .before .before .before .before .before .before .before .before .before .before .before .before .before .before .before .before .before .before .before .before .before)) (sym (c .before .before .before .before .before .before .before .before .before .before .before .before .before .before .before .before .before .before .before .before .before .again .ensures) ∙ c .before .before .before .before .before .before .before .before .before .before .before .before .before .before .before .before .before .before .before .before .if1 .taken)
 
 follow-add-give : (t : ℕ) → follow-lts.Need-add-give (follow-claims t) (follow-at t) follow.Post
-follow-add-give t c = let f = fine t (c .before .before .before .before .before .before .before .before .before) in omega (arith, f .most, c .before .before .before .before .before .before .before .before .before .before .before .before .before .before .before .before .before .before .before .before .before .before .before .pre .1 .0 .cheap)
+follow-add-give t c = let f = fine t (c .before .before .before .before .before .before .before .before .before) in omega (arith, f .most, c .before .before .before .before .before .before .before .before .before .before .before .before .before .before .before .before .before .before .before .before .before .pre .1 .0 .cheap)
 
 follow-give-requires : (t : ℕ) → follow-lts.Need-give-requires (follow-claims t) (follow-at t) follow.Post
-follow-give-requires t c κs = let f = fine t (c .before .before .before .before .before .before .before .before .before) in let r = c .before .before .before .before .before .before .before .before .before .before .before .before .before .before .before .before .before .before .before .before .before .before .before .pre .1 .0 in (r .lent, (f .inside, (r .known, omega (arith, f .most, r .cheap))))
+follow-give-requires t c κs = let f = fine t (c .before .before .before .before .before .before .before .before .before) in let r = c .before .before .before .before .before .before .before .before .before .before .before .before .before .before .before .before .before .before .before .before .before .pre .1 .0 in (r .lent, (f .inside, (r .known, omega (arith, f .most, r .cheap))))
 
 follow-same-length-7 : (t : ℕ) → follow-lts.Need-same-length-7 (follow-claims t) (follow-at t) follow.Post
 follow-same-length-7 t c = c .before .before .before .before .before .before .before .before .before .before .before .before .give .kept .0
@@ -283,10 +283,10 @@ follow-same-length-11 t c = c .before .before .before .before .before .before .b
 follow-same-length-12 : (t : ℕ) → follow-lts.Need-same-length-12 (follow-claims t) (follow-at t) follow.Post
 follow-same-length-12 t c = c .before .before .before .before .before .before .before .before .before .before .before .before .give .kept .1 .1 .1 .1 .1 .0
 
-follow-returns-5 : (t : ℕ) → follow-lts.Need-returns-5 (follow-claims t) (follow-at t) follow.Post
-follow-returns-5 t c =
+follow-returns-4 : (t : ℕ) → follow-lts.Need-returns-4 (follow-claims t) (follow-at t) follow.Post
+follow-returns-4 t c =
     c .before .before .before .before .before .before .before .before .before .before .before .before .give .ensures
-    ∙ follow-give _ _ _ _ _ _ _ _ _ _ _ (open-bit t (c .before .before .before .before .before .before .before .before .before .before .before .before .before .before .before .before .before .before .before .before .before .before .before .before .before)) _ _ (jumped t (c .before .before .before .before .before .before .before .before .before .before .before .before .before .before .before .before .before .before .before .before .before .before)) (sym (c .before .before .before .before .before .before .before .before .before .before .before .before .before .before .before .before .before .before .before .before .again .ensures) ∙ c .before .before .before .before .before .before .before .before .before .before .before .before .before .before .before .before .before .before .before .if2 .left)
+    ∙ reached-give _ _ _ _ _ _ _ _ _ _ (jumped t (c .before .before .before .before .before .before .before .before .before .before .before .before .before .before .before .before .before .before .before .before .before .before)) (sym (c .before .before .before .before .before .before .before .before .before .before .before .before .before .before .before .before .before .before .before .before .again .ensures) ∙ c .before .before .before .before .before .before .before .before .before .before .before .before .before .before .before .before .before .before .before .if1 .left)
 
 pub +expand+follow-spec : {M : Type 1} → statement M
 +expand+follow-spec = close μ-expand μ-follow (λ t. expand-lts.spec (expand-claims t) (expand-at t) expand.Post
@@ -300,6 +300,7 @@ pub +expand+follow-spec : {M : Type 1} → statement M
     (expand-byte-requires t)
     (expand-pruned-mask-requires t)
     (expand-price-of-requires t)
+    (expand-next-of-requires t)
     (expand-loop-holds t)
     (expand-follow-requires t)
     (expand-enum-known-r t)
@@ -311,7 +312,8 @@ pub +expand+follow-spec : {M : Type 1} → statement M
     (expand-same-length-5 t)
     (expand-same-length-6 t)
     (expand-returns-2 t)
-    (expand-add-e t)
+    (expand-add-next-of t)
+    (expand-next-of-requires-2 t)
     (expand-loop-less t)
     (expand-loop-again t)
     (expand-same-length-7 t)
@@ -322,14 +324,12 @@ pub +expand+follow-spec : {M : Type 1} → statement M
     (expand-same-length-12 t)
     (expand-returns-3 t))
     λ t. follow-lts.spec (follow-claims t) (follow-at t) follow.Post
-    (follow-bit-requires t)
-    (follow-returns t)
     (follow-jump-along-requires t)
     (follow-enum-known-c t)
     (follow-enum-told t)
-    (follow-returns-2 t)
+    (follow-returns t)
     (follow-again-requires t)
-    (follow-returns-3 t)
+    (follow-returns-2 t)
     (follow-add-expand t)
     (follow-sub-expand t)
     (follow-expand-requires t)
@@ -339,7 +339,7 @@ pub +expand+follow-spec : {M : Type 1} → statement M
     (follow-same-length-4 t)
     (follow-same-length-5 t)
     (follow-same-length-6 t)
-    (follow-returns-4 t)
+    (follow-returns-3 t)
     (follow-add-give t)
     (follow-give-requires t)
     (follow-same-length-7 t)
@@ -348,4 +348,4 @@ pub +expand+follow-spec : {M : Type 1} → statement M
     (follow-same-length-10 t)
     (follow-same-length-11 t)
     (follow-same-length-12 t)
-    (follow-returns-5 t)
+    (follow-returns-4 t)

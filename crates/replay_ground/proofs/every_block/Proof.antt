@@ -4,10 +4,10 @@ use Rattle.replay_ground.proofs.every_block.Statement.{statement}
 use Rattle.replay_ground.proofs.every_block.Tie as tie
 
 abbrev Inv-loop : tie.InvT-loop
-Inv-loop fd t₀ turns₀ t turns = Unit {0}
+Inv-loop t₀ turns₀ t turns = Unit {0}
 
 abbrev μ-loop : tie.MeasureT-loop
-μ-loop fd t₀ turns₀ t turns = turns
+μ-loop t₀ turns₀ t turns = turns
 
 loop-holds : tie.Need-loop-holds Inv-loop μ-loop
 loop-holds c = tt

@@ -1,7 +1,7 @@
-//! searches SEED: grids, and searches on them with the Rust's answers, as a list.
+//! searches SEED [ROUNDS]: grids, and searches on them with the Rust's answers, as a list.
 //!
 //! Block kinds, after the kind byte:
-//!   0  a grid by calls: width, height, diagonals during the calls (u8 each); a bit for each cell, row by row, least bit
+//!   0  a grid by calls: width, height, diagonals during the calls (u8 each), count of cells (u16); a bit for each cell, row by row, least bit
 //!      first, set where the cell is set blocked (in that order, on a new grid); 1 if then rebuilt (u8); count (u16) of later
 //!      edits, each x, y, blocked (u8 each)
 //!   1  a grid by its tables: width, height (u16 each), dirty mark (u8), count of cells (u16); then for each cell, row by
@@ -28,6 +28,7 @@ fn by_calls(m: &Map, out: &mut List, r: &mut Rng) -> Both {
     let mut both = Both::new(m.w as usize, m.h as usize);
     let mut b = Block::of(0);
     b.u8(m.w as u8).u8(m.h as u8).u8(m.diagonal as u8);
+    b.u16(m.blocked.len() as u16);
     both.diagonal(m.diagonal);
     b.bits(&m.blocked);
     for (i, blocked) in m.blocked.iter().enumerate() {
@@ -198,16 +199,7 @@ impl Asker {
     }
 }
 
-fn main() {
-    let seed = std::env::args().nth(1).expect("searches SEED");
-    let mut r = Rng(seed.parse().unwrap());
-    let r = &mut r;
-    let mut asker = Asker {
-        out: List::out(),
-        counts: BTreeMap::new(),
-        given_up: 0,
-        most_pops: 0,
-    };
+fn round(asker: &mut Asker, r: &mut Rng) {
     for i in 0..450 {
         let m = gen_map(KINDS[i % 18], r);
         let mut both = by_calls(&m, &mut asker.out, r);
@@ -258,6 +250,19 @@ fn main() {
         let mut both = by_tables(&t, &mut asker.out);
         let ask = any_ask(&both, 6, 6, r);
         asker.ask(&mut both, &ask);
+    }
+}
+
+fn main() {
+    let (mut r, rounds) = tools::list::asked("searches");
+    let mut asker = Asker {
+        out: List::out(),
+        counts: BTreeMap::new(),
+        given_up: 0,
+        most_pops: 0,
+    };
+    for _ in 0..rounds {
+        round(&mut asker, &mut r);
     }
     asker.out.end();
     eprintln!(

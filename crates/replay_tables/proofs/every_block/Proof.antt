@@ -1,0 +1,54 @@
+-- `replay_tables::every_block` is safe and ends: the measure is the number of turns that are left. Assumes nothing.
+use native.Mathlib.Omega.{arith}
+use borrow.Author.Needs.{needs}
+use Rattle.replay_tables.proofs.every_block.Statement.{statement}
+use Rattle.replay_tables.proofs.every_block.Tie as tie
+
+abbrev Inv-loop : tie.InvT-loop
+Inv-loop run₀ turns₀ run turns = Unit {0}
+
+abbrev μ-loop : tie.MeasureT-loop
+μ-loop run₀ turns₀ run turns = turns
+
+raw-requires : tie.Need-raw-requires Inv-loop μ-loop
+raw-requires c κs = search needs
+
+raw-requires-2 : tie.Need-raw-requires-2 Inv-loop μ-loop
+raw-requires-2 c κs = search needs
+
+loop-holds : tie.Need-loop-holds Inv-loop μ-loop
+loop-holds c = tt
+
+one-block-requires : tie.Need-one-block-requires Inv-loop μ-loop
+one-block-requires c κs = tt
+
+sub-turns : tie.Need-sub-turns Inv-loop μ-loop
+sub-turns c = omega arith
+
+loop-less : tie.Need-loop-less Inv-loop μ-loop
+loop-less c = omega arith
+
+loop-again : tie.Need-loop-again Inv-loop μ-loop
+loop-again c = tt
+
+returns : tie.Need-returns Inv-loop μ-loop
+returns c = tt
+
+returns-2 : tie.Need-returns-2 Inv-loop μ-loop
+returns-2 c = tt
+
+pub every-block-spec : {M : Type 1} → statement M
+every-block-spec =
+    tie.close
+    (tie.spec
+    Inv-loop
+    μ-loop
+    raw-requires
+    raw-requires-2
+    loop-holds
+    one-block-requires
+    sub-turns
+    loop-less
+    loop-again
+    returns
+    returns-2)

@@ -1,0 +1,90 @@
+// Replays a list of map texts and of what `route` prints of them from standard input, and counts the answers that differ.
+// The list's form stands at the head of oracle/tools/src/bin/texts.rs.
+ghost use mathlib.Core.Path.{_≡_};
+ghost use Prim.Native.Nat.{_<_, _≤_, _*_};
+ghost use lib.ListN.{length};
+
+struct Totals {
+    texts: u64,
+    wrong: u64,
+    more: bool,
+}
+
+fn unlike_at(a: &[u8], b: &[u8], i: usize) -> u64 {
+    if lists::u8_at(a, i) == lists::u8_at(b, i) { 0 } else { 1 }
+}
+
+fn unlike(a: &[u8], b: &[u8]) -> u64 {
+    if a.len() != b.len() {
+        return 1;
+    }
+    let mut wrong: u64 = 0;
+    let mut i: usize = 0;
+    while i < a.len() {
+        wrong = std::num::wrapping_add_u64(wrong, unlike_at(a, b, i));
+        i += 1;
+    }
+    wrong
+}
+
+// A block: the text's length in two bytes, the text, and what is to be printed of it.
+fn replay(s: &[u8]) -> u64 {
+    let n = lists::u16_at(s, 0) as usize;
+    let from = 2;
+    let to = from + n;
+    if s.len() < to {
+        return 1;
+    }
+    let text = &s[from..to];
+    let mut out = [0u8; router::PRINT];
+    let k = router::route(text, &mut out);
+    let want = &s[to..];
+    unlike(want, &out[..k])
+}
+
+fn show(wrong: u64, block: u64) {
+    if wrong != 0 {
+        lists::say(b"differences", wrong);
+        lists::say(b"  at the text", block);
+    }
+}
+
+fn one_block(t: Totals) -> Totals {
+    let mut buf = io::large_buffer();
+    let n = lists::next_block(libc::STDIN_FILENO, &mut buf);
+    if n == 0 {
+        return Totals {
+            texts: t.texts,
+            wrong: t.wrong,
+            more: false,
+        };
+    }
+    let wrong = replay(&buf[..n]);
+    show(wrong, t.texts);
+    Totals {
+        texts: std::num::wrapping_add_u64(t.texts, 1),
+        wrong: std::num::wrapping_add_u64(t.wrong, wrong),
+        more: true,
+    }
+}
+
+// Every block. Nothing says that a list ends, so the turns are counted down.
+fn every_block() -> Totals {
+    let mut t = Totals {
+        texts: 0,
+        wrong: 0,
+        more: true,
+    };
+    let mut turns: usize = 1000000000;
+    while turns > 0 && t.more {
+        t = one_block(t);
+        turns -= 1;
+    }
+    t
+}
+
+fn main() {
+    let t = every_block();
+    lists::say(b"texts", t.texts);
+    lists::say(b"differences", t.wrong);
+}

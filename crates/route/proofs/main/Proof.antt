@@ -1,0 +1,71 @@
+use Rattle.router.proofs.Short.{within}
+use lib.Seq.{length-take-le}
+use lib.ListN.{length, length-replicate}
+use native.Mathlib.Omega.{arith}
+use Prim.Native.Nat.{ℕ, _≤_}
+use mathlib.Core.Path.{_≡_, sym}
+use borrow.Author.Needs.{needs}
+use Rattle.route.proofs.main.Statement.{statement}
+use Rattle.route.proofs.main.Tie as tie
+use Rattle.route.proofs.main.Reads as reads
+use Rattle.route.proofs.main.Lts as lts
+use Rattle.io.proofs.read_full.Reads as read-full-reads
+use Rattle.io.proofs.write_all.Reads as write-all-reads
+use Rattle.os.proofs.fail.Reads as fail-reads
+use Rattle.router.proofs.route.Reads as route-reads
+
+printed : (e : tie.After-route) → e .route .result ≤ length (e .route .last .1 .0)
+printed e = within _ _ _ _ (e .route .ensures) (omega (arith, length-replicate {A = ℕ} 82100 0))
+
+slice-aggregate-read-full : tie.Need-slice-aggregate-read-full
+slice-aggregate-read-full c = search needs
+
+read-full-requires : tie.Need-read-full-requires
+read-full-requires c κs = search needs
+
+array-share-prefix-text : tie.Need-array-share-prefix-text
+array-share-prefix-text c = search needs
+
+slice-aggregate-route : tie.Need-slice-aggregate-route
+slice-aggregate-route c = search needs
+
+route-requires : tie.Need-route-requires
+route-requires c κs = search needs
+
+array-share-prefix-out : tie.Need-array-share-prefix-out
+array-share-prefix-out c = printed c
+
+slice-aggregate-write-all : tie.Need-slice-aggregate-write-all
+slice-aggregate-write-all c = sym (length-take-le (c .before .route .result) (c .before .route .last .1 .0) (printed (c .before)))
+
+write-all-requires : tie.Need-write-all-requires
+write-all-requires c κs = search needs
+
+slice-aggregate-fail : tie.Need-slice-aggregate-fail
+slice-aggregate-fail c = search needs
+
+fail-requires : tie.Need-fail-requires
+fail-requires c κs = search needs
+
+returns : tie.Need-returns
+returns c = search needs
+
+returns-2 : tie.Need-returns-2
+returns-2 c = search needs
+
+pub main-spec : {M : Type 1} → statement M
+main-spec =
+    tie.close
+    (tie.spec
+    slice-aggregate-read-full
+    read-full-requires
+    array-share-prefix-text
+    slice-aggregate-route
+    route-requires
+    array-share-prefix-out
+    slice-aggregate-write-all
+    write-all-requires
+    slice-aggregate-fail
+    fail-requires
+    returns
+    returns-2)

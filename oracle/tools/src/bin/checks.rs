@@ -1,0 +1,39 @@
+//! checks SEED [ROUNDS]: route checks, as a list.
+//!
+//! A block, after the kind byte 2:
+//!   width, height (u8 each), count of cells (u16), a bit for each cell, row by row, least bit first, set where it is blocked; count (u16) of
+//!   numbers, each i16: the waypoints, x and y in turn;
+//!   answer: result (u8: 0, or 13 LIST, 14 POINT), the point that POINT carries (two i16, else 0 0), 1 if clear (u8)
+//! The route check is document 01's: the Rust has none.
+use grid_util::point::Point;
+use tools::judge::list_refused;
+use tools::list::{Block, List};
+use tools::make::{any_numbers, points_of};
+use tools::Rng;
+
+fn check(r: &mut Rng) -> Block {
+    let (w, h) = (r.range(1, 12), r.range(1, 12));
+    let density = [0, 2, 10, 40][r.below(4) as usize];
+    let blocked: Vec<bool> = (0..w * h).map(|_| r.pct(density)).collect();
+    let v = any_numbers(6, w, h, r);
+    let (result, point) = list_refused(&v).unwrap_or((0, Point::new(0, 0)));
+    let free = |p: &Point| {
+        p.x >= 0 && p.y >= 0 && p.x < w && p.y < h && !blocked[(p.y * w + p.x) as usize]
+    };
+    let clear = result == 0 && points_of(&v)[1..].iter().all(free);
+    let mut b = Block::of(2);
+    b.u8(w as u8).u8(h as u8).u16(blocked.len() as u16);
+    b.bits(&blocked);
+    b.numbers(&v);
+    b.u8(result).point(point).u8(clear as u8);
+    b
+}
+
+fn main() {
+    let (mut r, rounds) = tools::list::asked("checks");
+    let mut out = List::out();
+    for _ in 0..600 * rounds {
+        out.put(&check(&mut r));
+    }
+    out.end();
+}
