@@ -36,13 +36,7 @@ fn flag(b: bool) -> u32
 }
 
 // A refusal number (0 found), pops, the number of waypoints, the route check and the waypoints.
-pub fn put_answer(
-    buf: &mut [u8],
-    number: u32,
-    pops: u32,
-    list: &[i32],
-    clear: bool,
-) -> usize
+pub fn put_answer(buf: &mut [u8], number: u32, pops: u32, list: &[i32], clear: bool) -> usize
     requires { ⌜ (number < 100000) × (pops < 100000) × (length (now list) < 100000) × Even (length (now list)) × (firstBad (now list) ≡ Nowhere) × (100 + 10 * length (now list) ≤ length (now buf)) ⌝ }
     ensures { λ r. ⌜ (r ≡ length (answerText number pops (now (list .entry)) clear)) × (now (buf .exit) ≡ sets (now (buf .entry)) 0 (answerText number pops (now (list .entry)) clear)) ⌝ }
 {

@@ -44,9 +44,11 @@ map-fair t m e = long (ltb mostText (length t)) e
     rows : (h : Header) → Fair h → (r : Rows) → withRows h r ≡ Map m → Fair m
     rows h f Good q = subst Fair (same h m q) f
     rows h f (BadRow n) q = absurd (never n m q)
+
     head : (r : Head) → HBounded (length t) r → withHead t r ≡ Map m → Fair m
     head (Of h k) b q = rows h (b .0) (rowsOf (h .height) (h .width) 6 (drop k t)) q
     head (BadHead n) b q = absurd (never n m q)
+
     long : (b : Bool) → cond b (Bad 0) (withHead t (headOf t)) ≡ Map m → Fair m
     long true q = absurd (never 0 m q)
     long false q = head (headOf t) (head-fair t) q

@@ -1,6 +1,6 @@
 -- Laws of cells and their places, and of the tests on them. Assumes nothing.
 use mathlib.Core.Path.{_≡_, refl, sym}
-use mathlib.Core.Bool.{Bool, true, false, not, true≢false}
+use mathlib.Core.Bool.{Bool, true, false, true≢false}
 use mathlib.Core.List.{List}
 use Prim.Native.Nat.{ℕ, _+_, _-_, _*_, _≤_, _<_}
 use native.Mathlib.Nat.{mul-le-mul-right, mul-le-mul, add-mul, one-mul}
@@ -8,7 +8,7 @@ use native.Mathlib.Omega.{arith}
 use lib.Dec.{T, leb, eqb}
 use borrow.Author.Tests.{le-leb, leb-true}
 use Rattle.points.specs.Plane.{legal}
-use Rattle.goals.specs.Goals.{mostSide, both, either}
+use Rattle.goals.specs.Goals.{mostSide, both}
 use Rattle.jumps.specs.Floor.{Sized, Within, Placed, Held, spotOf, numberOf, within, freeAt, byteAt}
 
 -- a cell's number is below the area
@@ -51,7 +51,3 @@ free-inside blocked w h x y e =
     let g = both-true (leb 1 x) (leb x w) (f .0) in
     let k = both-true (leb 1 y) (leb y h) (f .1) in
     record { left = leb-true 1 x (g .0); right = leb-true x w (g .1); top = leb-true 1 y (k .0); low = leb-true y h (k .1) }
-
--- the last of three tests decides
-pub last-of : (a b g e : Bool) → a ≡ false → b ≡ false → g ≡ false → e ≡ either a (either b (both (not g) e))
-last-of a b g e p q r = rw (p, q, r)

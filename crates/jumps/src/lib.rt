@@ -2,8 +2,9 @@
 use goals::Plan;
 use points::Point;
 ghost use mathlib.Core.Path.{_≡_};
-ghost use Prim.Native.Nat.{_<_, _≤_};
-ghost use Rattle.goals.specs.Goals.{mostSide, Aimed};
+ghost use mathlib.Core.Bool.{not};
+ghost use Prim.Native.Nat.{_+_, _%_, _<_, _≤_};
+ghost use Rattle.goals.specs.Goals.{mostSide, both, either, Aimed};
 ghost use Rattle.jumps.specs.Floor.{Sized, Within, Inside, Placed, Held, Floor, spotOf, numberOf, byteAt, freeAt, stopsAt, seesOn, seesEither, turnsAt, haltsAt, priceOf, jumpOf};
 
 pub struct Cell {
@@ -125,13 +126,36 @@ fn sees_either(
     sees_on(blocked, forced, goals, p, e, x, y)
 }
 
-// Whether d is diagonal and a straight jump along x or y finds something.
-fn turns(blocked: &[u8], forced: &[u8], goals: &[i32], p: Plan, d: u8, x: usize, y: usize) -> bool
+// Whether a straight jump to a side finds something: along x or y where d is diagonal, and, diagonals off, a perpendicular one.
+// One call serves each turn, an eighth to both sides and then a quarter: with more calls the plan is copied at every step.
+fn sees_aside(
+    blocked: &[u8],
+    forced: &[u8],
+    goals: &[i32],
+    p: Plan,
+    d: u8,
+    x: usize,
+    y: usize,
+) -> bool
     requires { ⌜ Floor (now blocked) (now forced) (now goals) p × ((d < 8) × Within (p .w) (p .h) x y) ⌝ }
-    ensures { λ r. ⌜ r ≡ turnsAt (now (blocked .entry)) (now (forced .entry)) (now (goals .entry)) p d x y ⌝ }
+    ensures { λ r. ⌜ r ≡ either (turnsAt (now (blocked .entry)) (now (forced .entry)) (now (goals .entry)) p d x y) (both (not (p .settings .diagonal)) (seesEither (now (blocked .entry)) (now (forced .entry)) (now (goals .entry)) p ((d + 2) % 8) ((d + 6) % 8) x y)) ⌝ }
 {
-    if d % 2 == 1 {
-        return sees_either(blocked, forced, goals, p, (d + 7) % 8, (d + 1) % 8, x, y);
+    let last = 1 + (!p.settings.diagonal) as u8;
+    let mut turn = 1 + (d + 1) % 2;
+    while turn <= last {
+        if sees_either(
+            blocked,
+            forced,
+            goals,
+            p,
+            (d + turn) % 8,
+            (d + 8 - turn) % 8,
+            x,
+            y,
+        ) {
+            return true;
+        }
+        turn += 1;
     }
     false
 }
@@ -144,13 +168,7 @@ fn halts(blocked: &[u8], forced: &[u8], goals: &[i32], p: Plan, d: u8, x: usize,
     if stops(forced, goals, p, d, x, y) {
         return true;
     }
-    if turns(blocked, forced, goals, p, d, x, y) {
-        return true;
-    }
-    if p.settings.diagonal {
-        return false;
-    }
-    sees_either(blocked, forced, goals, p, (d + 2) % 8, (d + 6) % 8, x, y)
+    sees_aside(blocked, forced, goals, p, d, x, y)
 }
 
 // A jump in direction d from a cell, its first step at the caller's price, later ones at their own. It finds nothing on leaving free cells.

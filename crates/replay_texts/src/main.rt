@@ -11,7 +11,11 @@ struct Totals {
 }
 
 fn unlike_at(a: &[u8], b: &[u8], i: usize) -> u64 {
-    if lists::u8_at(a, i) == lists::u8_at(b, i) { 0 } else { 1 }
+    if lists::u8_at(a, i) == lists::u8_at(b, i) {
+        0
+    } else {
+        1
+    }
 }
 
 fn unlike(a: &[u8], b: &[u8]) -> u64 {

@@ -72,6 +72,7 @@ run-pops exp goal (suc left) pops s = by (leb (s .size) 0) (turnOf exp goal (top
     next (hit i k u) f = omega arith
     next (on u) f = omega (arith, f u)
     next (halt w) f = omega arith
+
     by : (b : Bool) (x : Turn) → ((u : State) → popsOf (run exp goal left (pops + 1) u) ≤ pops + 1 + left) → popsOf (cond b (refused refusal.Exhausted pops) (going x (run exp goal left (pops + 1)) (pops + 1))) ≤ pops + suc left
     by true x f = omega arith
     by false x f = next x f
@@ -129,6 +130,7 @@ checked-fine g l = by (legalOf g) (eqb (length l) 0) (eqb (length l % 2) 1) even
   where
     even : eqb (length l % 2) 1 ≡ false → length l % 2 ≡ 0
     even e = let no-odd : length l % 2 ≡ 1 → ⊥ = λ h. true≢false (sym (eq-eqb (length l % 2) 1 h) ∙ e) in omega (arith, no-odd)
+
     by : (a b c : Bool) → (c ≡ false → length l % 2 ≡ 0) → (f : BadPoints) → (f ≡ Nowhere → firstBad l ≡ Nowhere) → (t : Bool)
         → Fine l (cond a (cond b (RefusedCheck refusal.List) (cond c (RefusedCheck refusal.List) (judged f t))) (RefusedCheck refusal.State))
     by true false false p Nowhere q true = (p refl, q refl)
@@ -168,6 +170,7 @@ rows-low (suc h) w line l = by (rowOk w l) (rowsOf h w (line + 1) (drop (w + 5) 
     wider : (r : Rows) → RowsLow (line + 1 + h) r → RowsLow (line + suc h) r
     wider Good q = tt
     wider (BadRow n) q = omega arith
+
     by : (b : Bool) (r : Rows) → RowsLow (line + 1 + h) r → RowsLow (line + suc h) (cond b r (BadRow line))
     by true r q = wider r q
     by false r q = omega arith
@@ -211,9 +214,11 @@ map-low t = by (ltb mostText (length t))
     rows : (m : Header) → m .height ≤ mostSide → (r : Rows) → RowsLow (6 + m .height) r → MapLow (withRows m r)
     rows m h Good q = tt
     rows m h (BadRow n) q = omega arith
+
     head : (r : Head) → HBounded (length t) r → HeadLow r → MapLow (withHead t r)
     head (Of m k) b l = rows m (side-most (m .height) (b .0 .high)) (rowsOf (m .height) (m .width) 6 (drop k t)) (rows-low (m .height) (m .width) 6 (drop k t))
     head (BadHead n) b l = omega arith
+
     by : (b : Bool) → MapLow (cond b (Bad 0) (withHead t (headOf t)))
     by true = omega arith
     by false = head (headOf t) (head-fair t) (head-low t)

@@ -45,8 +45,18 @@ answer-short n pops l clear =
     let c = numberText waypointsWord (length l / 2) in
     let d = numberText clearWord (cond clear 1 0) in
     let e = pointsText l in
-    omega (arith, points-short l, number-text-length resultWord n, number-text-length popsWord pops, number-text-length waypointsWord (length l / 2), number-text-length clearWord (cond clear 1 0),
-    length-append a (b ++ (c ++ (d ++ e))), length-append b (c ++ (d ++ e)), length-append c (d ++ e), length-append d e)
+    omega (
+      arith,
+      points-short l,
+      number-text-length resultWord n,
+      number-text-length popsWord pops,
+      number-text-length waypointsWord (length l / 2),
+      number-text-length clearWord (cond clear 1 0),
+      length-append a (b ++ (c ++ (d ++ e))),
+      length-append b (c ++ (d ++ e)),
+      length-append c (d ++ e),
+      length-append d e,
+    )
 
 checked-short : (v : Verdict) (pops : ℕ) (l : List ℤ) → length (checkedText v pops l) ≤ 100 + 10 * length l
 checked-short Yes pops l = answer-short 0 pops l true

@@ -55,11 +55,15 @@ loop-again c =
     let l = now (c .before .before .before .before .before .before .before .before .before .args .list) in
     let p = c .before .before .before .before .before .point-at in
     let q = c .before .before .put-point-line in
-    let z : v .i + 1 < length l = omega (arith, v .inv, c .before .before .before .before .before .before .loop-test .taken, c .before .before .before .before .before .before .before .before .before .pre .0) in
-    (q .kept .0 ∙ v .inv .0, omega (arith, v .inv .1), omega (arith, z), none-bad l (v .i) z (v .inv .3) .1,
-    omega (arith, q .kept .0, q .ensures .0, point-text-length pointWord (p .result), v .inv, z),
-    points-count l (v .i) (p .result) (p .ensures) z (v .k) (q .result) (q .ensures .0) ∙ v .inv .5,
-    points-stores l (v .i) (p .result) (p .ensures) z (v .k) (q .result) (q .ensures .0) (v .buf) (q .last .0) (q .ensures .1) ∙ v .inv .6)
+    let z : v .i + 1 < length l = omega (arith, v .inv, c .before .before .before .before .before .before .loop-test .taken, c .before .before .before .before .before .before .before .before .before .pre .0) in (
+      q .kept .0 ∙ v .inv .0,
+      omega (arith, v .inv .1),
+      omega (arith, z),
+      none-bad l (v .i) z (v .inv .3) .1,
+      omega (arith, q .kept .0, q .ensures .0, point-text-length pointWord (p .result), v .inv, z),
+      points-count l (v .i) (p .result) (p .ensures) z (v .k) (q .result) (q .ensures .0) ∙ v .inv .5,
+      points-stores l (v .i) (p .result) (p .ensures) z (v .k) (q .result) (q .ensures .0) (v .buf) (q .last .0) (q .ensures .1) ∙ v .inv .6,
+    )
 
 same-length : tie.Need-same-length Inv-loop μ-loop
 same-length c = c .before .loop .inv .0

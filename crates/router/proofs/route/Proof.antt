@@ -78,10 +78,12 @@ put-outcome-requires c κs =
     let m = c .before .before .before .before .before .before .before .before .before .before .before .before .read-map .result in
     let g = c .before .before .before .before .before .before .generate-components .result .grid in
     let s = c .before .before .before .searched in
-    let n = length blank in
-    (omega (arith, ap (λ (x : Answer). x .pops) (s .ensures .0), few-pops n g (m .diagonal) (m .start) (m .goal)),
-    subst (λ (k : ℕ). Within k (s .result .outcome)) (sym (s .kept .0)) (subst (λ (x : Answer). Within n (x .outcome)) (sym (s .ensures .0)) (few-points n (exactOf g (m .diagonal) (m .start) (m .goal)))),
-    omega (arith, s .kept .0), omega (arith, s .kept .0))
+    let n = length blank in (
+      omega (arith, ap (λ (x : Answer). x .pops) (s .ensures .0), few-pops n g (m .diagonal) (m .start) (m .goal)),
+      subst (λ (k : ℕ). Within k (s .result .outcome)) (sym (s .kept .0)) (subst (λ (x : Answer). Within n (x .outcome)) (sym (s .ensures .0)) (few-points n (exactOf g (m .diagonal) (m .start) (m .goal)))),
+      omega (arith, s .kept .0),
+      omega (arith, s .kept .0),
+    )
 
 returns-2 : tie.Need-returns-2
 returns-2 c =

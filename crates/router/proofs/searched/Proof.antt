@@ -47,9 +47,10 @@ returns c =
     let a = c .before .before .before .before .before .before .before .before .before .before .before .before .before .before .before .before .args in
     let l = now (a .list) in
     let n = c .before .before .before .before .before .before .before .before .before .before .before .before .before .before .before .new in
-    let w = c .before .before .before .before .before .before .before .get-waypoints-single-goal in
-    (w .ensures .0 ∙ (λ i. answerOf (length l) (singleOf (a .g) (record { factor = n .ensures i .factor; diagonal = a .diagonal; improved = n .ensures i .improved; depth = n .ensures i .depth; pops = n .ensures i .pops; fringe = n .ensures i .fringe }) room false (a .start) (a .goal))),
-    w .ensures .1 ∙ (λ i. outAfter l (singlePlan (a .g) (record { factor = n .ensures i .factor; diagonal = a .diagonal; improved = n .ensures i .improved; depth = n .ensures i .depth; pops = n .ensures i .pops; fringe = n .ensures i .fringe }) false (a .start) (a .goal)) (singleOf (a .g) (record { factor = n .ensures i .factor; diagonal = a .diagonal; improved = n .ensures i .improved; depth = n .ensures i .depth; pops = n .ensures i .pops; fringe = n .ensures i .fringe }) room false (a .start) (a .goal))))
+    let w = c .before .before .before .before .before .before .before .get-waypoints-single-goal in (
+      w .ensures .0 ∙ (λ i. answerOf (length l) (singleOf (a .g) (record { factor = n .ensures i .factor; diagonal = a .diagonal; improved = n .ensures i .improved; depth = n .ensures i .depth; pops = n .ensures i .pops; fringe = n .ensures i .fringe }) room false (a .start) (a .goal))),
+      w .ensures .1 ∙ (λ i. outAfter l (singlePlan (a .g) (record { factor = n .ensures i .factor; diagonal = a .diagonal; improved = n .ensures i .improved; depth = n .ensures i .depth; pops = n .ensures i .pops; fringe = n .ensures i .fringe }) false (a .start) (a .goal)) (singleOf (a .g) (record { factor = n .ensures i .factor; diagonal = a .diagonal; improved = n .ensures i .improved; depth = n .ensures i .depth; pops = n .ensures i .pops; fringe = n .ensures i .fringe }) room false (a .start) (a .goal))),
+    )
 
 pub searched-spec : {M : Type 1} → statement M
 searched-spec =

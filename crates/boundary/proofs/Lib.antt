@@ -1,0 +1,3 @@
+mod Choice
+mod Lent
+mod Searches

@@ -1,0 +1,79 @@
+-- `boundary::barnsling_multiple_goals` meets its contract: the numbers are read, and the search asked. Assumes nothing.
+use native.Mathlib.Omega.{arith}
+use mathlib.Core.Path.{_≡_, sym, ap, _∙_, refl}
+use Prim.Native.Nat.{ℕ, _*_}
+use borrow.Author.Tests.{not-true, not-false}
+use mir.Facts.{toZ-ofZ}
+use Rattle.cells.specs.Cells.{placeOf}
+use Rattle.cells.proofs.Cell.{area}
+use Rattle.tables.proofs.Joins.{sides-of}
+use Rattle.boundary.specs.Packing.{pointOf, flagOf}
+use Rattle.components.proofs.Roots.{weaken}
+use lib.ListN.{length}
+use mir.Syntax.{w32}
+use mathlib.Core.Bool.{Bool}
+use Rattle.points.specs.declared.Point.{Point}
+use Rattle.points.specs.declared.Told.{Told}
+use Rattle.costs.specs.declared.Settings.{Settings}
+use Rattle.finder.specs.declared.Outcome.{Outcome}
+use Rattle.finder.specs.Find.{ground, lengthsOf, singlePlan, severalPlan}
+use Rattle.finder.proofs.Laws.{stopped}
+use Rattle.boundary.specs.Searches.{settingsOf, singleLent, severalLent, routeWith, routeTold}
+use Rattle.boundary.proofs.Searches as R
+use Rattle.boundary.proofs.Lent as L
+use borrow.Author.Needs.{needs}
+use Rattle.boundary.proofs.barnsling_multiple_goals.Statement.{statement}
+use Rattle.boundary.proofs.barnsling_multiple_goals.Tie as tie
+
+flag-requires : tie.Need-flag-requires
+flag-requires c κs = search needs
+
+flag-requires-2 : tie.Need-flag-requires-2
+flag-requires-2 c κs = search needs
+
+settings-requires : tie.Need-settings-requires
+settings-requires c κs = search needs
+
+point-requires : tie.Need-point-requires
+point-requires c κs = search needs
+
+several-requires : tie.Need-several-requires
+several-requires c κs = search needs
+
+routed-requires : tie.Need-routed-requires
+routed-requires c κs = search needs
+
+same-length : tie.Need-same-length
+same-length c = let s = c .before .before .before .before .before .before .before .before .before .before .before .before .before .before .before .before .before .before .before .before .before .before .before .before .before .before .before .before .before .before .before .before .before .before .before .before .before in
+    c .before .before .before .before .before .before .before .before .before .before .before .before .before .before .several .kept .1 .1 .1 .1 .1 .1 .0
+
+same-length-2 : tie.Need-same-length-2
+same-length-2 c = let s = c .before .before .before .before .before .before .before .before .before .before .before .before .before .before .before .before .before .before .before .before .before .before .before .before .before .before .before .before .before .before .before .before .before .before .before .before .before in
+    c .before .before .before .before .before .before .before .before .before .before .before .before .before .before .several .kept .1 .1 .1 .1 .1 .1 .1 .0
+
+same-length-3 : tie.Need-same-length-3
+same-length-3 c = let s = c .before .before .before .before .before .before .before .before .before .before .before .before .before .before .before .before .before .before .before .before .before .before .before .before .before .before .before .before .before .before .before .before .before .before .before .before .before in
+    c .before .before .before .before .before .before .before .before .before .before .before .before .before .before .several .kept .1 .1 .1 .1 .1 .1 .1 .1 .0
+
+same-length-4 : tie.Need-same-length-4
+same-length-4 c = let s = c .before .before .before .before .before .before .before .before .before .before .before .before .before .before .before .before .before .before .before .before .before .before .before .before .before .before .before .before .before .before .before .before .before .before .before .before .before in
+    c .before .before .before .before .before .before .before .before .before .before .before .before .before .before .several .kept .1 .1 .1 .1 .1 .1 .1 .1 .1 .0
+
+same-length-5 : tie.Need-same-length-5
+same-length-5 c = let s = c .before .before .before .before .before .before .before .before .before .before .before .before .before .before .before .before .before .before .before .before .before .before .before .before .before .before .before .before .before .before .before .before .before .before .before .before .before in
+    c .before .before .before .before .before .before .before .before .before .before .before .before .before .before .several .kept .1 .1 .1 .1 .1 .1 .1 .1 .1 .1 .0
+
+same-length-6 : tie.Need-same-length-6
+same-length-6 c = let s = c .before .before .before .before .before .before .before .before .before .before .before .before .before .before .before .before .before .before .before .before .before .before .before .before .before .before .before .before .before .before .before .before .before .before .before .before .before in
+    c .before .before .before .before .before .before .before .before .before .before .before .before .before .before .several .kept .1 .1 .1 .1 .1 .1 .1 .1 .1 .1 .1 .0
+
+same-length-7 : tie.Need-same-length-7
+same-length-7 c = let s = c .before .before .before .before .before .before .before .before .before .before .before .before .before .before .before .before .before .before .before .before .before .before .before .before .before .before .before .before .before .before .before .before .before .before .before .before .before in
+    c .before .before .before .before .before .before .before .before .before .before .before .before .before .before .several .kept .1 .1 .1 .1 .1 .1 .1 .1 .1 .1 .1 .1 .0
+
+returns : tie.Need-returns
+returns c = let s = c .before .before .before .before .before .before .before .before .before .before .before .before .before .before .before .before .before .before .before .before .before .before .before .before .before .before .before .before .before .before .before .before .before .before .before .before .before in
+    let es : c .before .before .before .before .before .before .before .before .before .before .before .before .before .before .before .before .before .before .before .before .before .before .before .settings .result ≡ settingsOf (s .args .factor) (flagOf (s .args .diagonal)) (flagOf (s .args .improved)) (s .args .depth) (s .args .pops) (s .args .fringe) = c .before .before .before .before .before .before .before .before .before .before .before .before .before .before .before .before .before .before .before .before .before .before .before .settings .ensures ∙ ap (λ (a : Bool). settingsOf (s .args .factor) a (c .before .before .before .before .before .before .before .before .before .before .before .before .before .before .before .before .before .before .before .before .before .before .before .before .flag2 .result) (s .args .depth) (s .args .pops) (s .args .fringe)) (c .before .before .before .before .before .before .before .before .before .before .before .before .before .before .before .before .before .before .before .before .before .before .before .before .before .flag .ensures) ∙ ap (λ (a : Bool). settingsOf (s .args .factor) (flagOf (s .args .diagonal)) a (s .args .depth) (s .args .pops) (s .args .fringe)) (c .before .before .before .before .before .before .before .before .before .before .before .before .before .before .before .before .before .before .before .before .before .before .before .before .flag2 .ensures) in let e1 : c .before .before .before .before .before .before .before .before .before .before .before .before .before .before .before .before .before .before .before .before .before .before .point .result ≡ pointOf (s .args .sx) (s .args .sy) = simp (toZ-ofZ (s .fits .sx), toZ-ofZ (s .fits .sy)) at (c .before .before .before .before .before .before .before .before .before .before .before .before .before .before .before .before .before .before .before .before .before .before .point .ensures) in R.several-asked (λ (a : Settings) (x : Point). severalLent (ground (s .args .w) (s .args .h) (s .args .blocked .now) (s .args .neighbours .now) (s .args .forced .now)) (s .args .links .now) (s .args .ranks .now) a (lengthsOf (s .args .number .now) (s .args .place .now) (s .args .parent .now) (s .args .cost .now) (s .args .keys .now) (s .args .idx .now)) x (s .args .goals .now)) (λ (a : Settings) (x : Point). severalPlan (s .args .w) (s .args .h) a x (s .args .goals .now)) _ _ _ _ _ _ _ _ _ (c .before .before .before .before .before .before .before .before .before .before .before .before .before .before .several .ensures) es e1 (c .routed .ensures)
+
+pub barnsling-multiple-goals-spec : {M : Type 1} → statement M
+barnsling-multiple-goals-spec = tie.close (tie.spec flag-requires flag-requires-2 settings-requires point-requires several-requires routed-requires same-length same-length-2 same-length-3 same-length-4 same-length-5 same-length-6 same-length-7 returns)

@@ -1,0 +1,58 @@
+-- `show::put` is safe: the sides that were tested bound the cells. Assumes nothing.
+use mathlib.Core.Path.{_≡_, sym, _∙_}
+use mathlib.Core.Bool.{true}
+use Prim.Native.Nat.{_*_}
+use native.Mathlib.Omega.{arith}
+use borrow.Author.Tests.{not-false}
+use Rattle.cells.proofs.Cell.{area}
+use Rattle.tables.specs.Tables.{Sides}
+use Rattle.tables.proofs.Joins.{sides-of}
+use borrow.Author.Needs.{needs}
+use Rattle.show.proofs.put.Statement.{statement}
+use Rattle.show.proofs.put.Tie as tie
+
+sides : (e : tie.Else1) → Sides (e .before .before .before .args .w) (e .before .before .before .args .h)
+sides e = sides-of (sym (e .before .sized .ensures) ∙ not-false _ (e .if1 .left))
+
+sized-requires : tie.Need-sized-requires
+sized-requires c κs = search needs
+
+returns : tie.Need-returns
+returns c = search needs
+
+cell-of-requires : tie.Need-cell-of-requires
+cell-of-requires c κs = (sides c .wide, sides c .high)
+
+mul-if2 : tie.Need-mul-if2
+mul-if2 c =
+    let a = c .before .before .before .before .args in
+    omega (arith, area (a .w) (a .h) (sides (c .before) .wide) (sides (c .before) .high))
+
+returns-2 : tie.Need-returns-2
+returns-2 c = search needs
+
+slice-write-canvas : tie.Need-slice-write-canvas
+slice-write-canvas c = search needs
+
+same-length : tie.Need-same-length
+same-length c = search needs
+
+returns-3 : tie.Need-returns-3
+returns-3 c = search needs
+
+returns-4 : tie.Need-returns-4
+returns-4 c = search needs
+
+pub put-spec : {M : Type 1} → statement M
+put-spec =
+    tie.close
+    (tie.spec
+    sized-requires
+    returns
+    cell-of-requires
+    mul-if2
+    returns-2
+    slice-write-canvas
+    same-length
+    returns-3
+    returns-4)
