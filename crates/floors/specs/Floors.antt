@@ -2,11 +2,12 @@
 use mathlib.Core.Bool.{Bool, true, false, cond}
 use mathlib.Core.List.{List}
 use Prim.Native.Nat.{ℕ, _*_, _%_}
-use lib.Dec.{eqb}
+use lib.Dec.{eqb, ltb}
+use lib.Seq.{sets}
 use lib.IntN.{ℤ, pos}
 use lib.ListN.{length, getD}
 use Rattle.points.specs.declared.Point.{Point}
-use Rattle.points.specs.declared.Refusal.the-variants.{State, Map as MapBroken, List as ListBroken, BadPoint}
+use Rattle.points.specs.declared.Refusal.the-variants.{State, Room, Map as MapBroken, List as ListBroken, BadPoint}
 use Rattle.masks.specs.Masks.{forcedOf}
 use Rattle.cells.specs.Cells.{maskAt, fillTo}
 use Rattle.grid.specs.Grids.{legalOf, zeros, newGrid}
@@ -14,13 +15,18 @@ use Rattle.grid.specs.declared.Grid.{Grid}
 use Rattle.grid.specs.declared.Outcome.the-variants.{Done, Refused as RefusedOutcome}
 use Rattle.grid.specs.declared.Verdict.{Verdict}
 use Rattle.grid.specs.declared.Verdict.the-variants.{Yes, No, Refused}
-use Rattle.maps.specs.Maps.{mapOf, cellsInto}
+use Rattle.points.specs.Plane.{legal}
+use Rattle.maps.specs.Maps.{mostText, mapOf, cellsInto}
+use Rattle.maps.specs.Shown.{mapText}
+use Rattle.maps.specs.declared.Header.{Header}
 use Rattle.maps.specs.declared.Reading.{Reading}
 use Rattle.maps.specs.declared.Reading.the-variants.{Map, Bad}
 use Rattle.paths.specs.Walks.{firstBad, clearOf}
 use Rattle.paths.specs.declared.Bad.{Bad as BadPoints}
 use Rattle.paths.specs.declared.Bad.the-variants.{At, Nowhere}
 use Rattle.floors.specs.declared.MapRead.{MapRead}
+use Rattle.floors.specs.declared.Put.{Put}
+use Rattle.floors.specs.declared.Put.the-variants.{Bytes, Refused as RefusedPut}
 
 -- the grid of a floor's cells: the masks that they give, each cell its own component, and the mark that a rebuild clears
 unfoldable pub floorGrid : ℕ → ℕ → List ℕ → Grid
@@ -63,3 +69,26 @@ checkOf g l =
     (cond (eqb (length l % 2) 1) (Refused ListBroken)
     (judged (firstBad l) (clearOf (g .width) (g .height) (g .blocked) l))))
     (Refused State)
+
+-- the text of a grid's cells, with an order to route
+abbrev pub headerOf : Grid → Bool → Point → Point → Header
+headerOf g diagonal start goal = record { width = g .width; height = g .height; diagonal = diagonal; start = start; goal = goal }
+
+unfoldable pub shownOf : Grid → Bool → Point → Point → List ℕ
+shownOf g diagonal start goal = mapText (headerOf g diagonal start goal) (g .blocked)
+
+-- STATE, POINT (start, then goal), and ROOM where the longest map text would not fit
+unfoldable pub putOf : ℕ → Grid → Bool → Point → Point → Put
+putOf room g diagonal start goal =
+    cond (legalOf g)
+    (cond (legal start)
+    (cond (legal goal)
+    (cond (ltb room mostText) (RefusedPut Room) (Bytes (length (shownOf g diagonal start goal))))
+    (RefusedPut (BadPoint goal)))
+    (RefusedPut (BadPoint start)))
+    (RefusedPut State)
+
+-- what stands in the room then
+abbrev pub putInto : Put → List ℕ → List ℕ → List ℕ
+putInto (Bytes n) text buf = sets buf 0 text
+putInto (RefusedPut w) text buf = buf

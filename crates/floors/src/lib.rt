@@ -2,10 +2,11 @@
 ghost use mathlib.Core.Path.{_≡_};
 ghost use lib.ListN.{length};
 ghost use Rattle.tables.specs.Tables.{Sides};
-ghost use Rattle.floors.specs.Floors.{floorGrid, refusedMap, readOf, checkOf};
+ghost use Rattle.floors.specs.Floors.{floorGrid, refusedMap, readOf, checkOf, shownOf, putOf, putInto};
 use grid::Grid;
 use grid::Outcome;
 use grid::Verdict;
+use maps::Header;
 use maps::Reading;
 use paths::Bad;
 use points::Point;
@@ -19,6 +20,12 @@ pub struct MapRead {
     pub diagonal: bool,
     pub start: Point,
     pub goal: Point,
+}
+
+// How many bytes were written, or a refusal.
+pub enum Put {
+    Bytes(usize),
+    Refused(Refusal),
 }
 
 // The grid of a floor's cells: their masks, each cell its own component, marked dirty.
@@ -110,4 +117,34 @@ pub fn check_route(g: Grid, list: &[i32]) -> Verdict
         return Verdict::Yes;
     }
     Verdict::No
+}
+
+// Writes a grid's cells with an order to route as a map text; the rest of the room is kept.
+// Refuses STATE, POINT (start, then goal), and ROOM where the longest map text would not fit; then nothing is written.
+pub fn write_map(buf: &mut [u8], g: Grid, diagonal: bool, start: Point, goal: Point) -> Put
+    ensures { λ r. ⌜ (r ≡ putOf (length (now (buf .entry))) g diagonal start goal) × (now (buf .exit) ≡ putInto r (shownOf g diagonal start goal) (now (buf .entry))) ⌝ }
+{
+    if !grid::legal(g) {
+        return Put::Refused(Refusal::State);
+    }
+    if !start.legal() {
+        return Put::Refused(Refusal::BadPoint(start));
+    }
+    if !goal.legal() {
+        return Put::Refused(Refusal::BadPoint(goal));
+    }
+    if buf.len() < maps::TEXT {
+        return Put::Refused(Refusal::Room);
+    }
+    let w = g.width;
+    let h = g.height;
+    let m = Header {
+        width: w,
+        height: h,
+        diagonal: diagonal,
+        start: start,
+        goal: goal,
+    };
+    let blocked = g.blocked;
+    Put::Bytes(maps::write::put_map(buf, m, &blocked))
 }

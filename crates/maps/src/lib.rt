@@ -13,7 +13,7 @@ use text::Num;
 use text::Pair;
 
 // The most bytes of a map text.
-const TEXT: usize = 8192;
+pub const TEXT: usize = 8192;
 
 // What the lines before the rows say.
 pub struct Header {

@@ -1,8 +1,9 @@
-// Replays a list of map texts and of what `route` prints of them from standard input, and counts the answers that differ.
+// Replays a list of map texts and of what `route` prints of them from standard input, and counts the answers that differ;
+// each map that is read is written again, and has to give its text.
 // The list's form stands at the head of oracle/tools/src/bin/texts.rs.
-ghost use mathlib.Core.Path.{_≡_};
-ghost use Prim.Native.Nat.{_<_, _≤_, _*_};
-ghost use lib.ListN.{length};
+
+use floors::Put;
+use grid::Outcome;
 
 struct Totals {
     texts: u64,
@@ -43,7 +44,28 @@ fn replay(s: &[u8]) -> u64 {
     let mut out = [0u8; router::PRINT];
     let k = router::route(text, &mut out);
     let want = &s[to..];
-    unlike(want, &out[..k])
+    std::num::wrapping_add_u64(unlike(want, &out[..k]), rewritten(text))
+}
+
+// How a text that is read differs from what is written of the map.
+fn rewritten(text: &[u8]) -> u64 {
+    let m = floors::read_map(text);
+    let outcome = m.outcome;
+    if let Outcome::Refused(_) = outcome {
+        return 0;
+    }
+    let g = m.grid;
+    let start = m.start;
+    let goal = m.goal;
+    let mut out = [0u8; maps::TEXT];
+    let put = floors::write_map(&mut out, g, m.diagonal, start, goal);
+    let Put::Bytes(n) = put else {
+        return 1;
+    };
+    if maps::TEXT < n {
+        return 1;
+    }
+    unlike(text, &out[..n])
 }
 
 fn show(wrong: u64, block: u64) {

@@ -8,7 +8,6 @@ use Rattle.router.proofs.Short.{within}
 use borrow.Author.Needs.{needs}
 use Rattle.replay_texts.proofs.replay.Statement.{statement}
 use Rattle.replay_texts.proofs.replay.Tie as tie
-use Rattle.lists.proofs.u16_at.Reads as u16-at-reads
 
 printed : (e : tie.After-route) → e .route .result ≤ length (e .route .last .1 .0)
 printed e = within _ _ _ _ (e .route .ensures) (omega (arith, length-replicate {A = ℕ} 82100 0))
@@ -55,6 +54,12 @@ slice-aggregate-unlike c = sym (length-take-le (c .before .before .route .result
 unlike-requires : tie.Need-unlike-requires
 unlike-requires c κs = search needs
 
+rewritten-requires : tie.Need-rewritten-requires
+rewritten-requires c κs = search needs
+
+wrapping-add-u64-requires : tie.Need-wrapping-add-u64-requires
+wrapping-add-u64-requires c κs = search needs
+
 returns-2 : tie.Need-returns-2
 returns-2 c = search needs
 
@@ -76,4 +81,6 @@ replay-spec =
     array-share-prefix-out
     slice-aggregate-unlike
     unlike-requires
+    rewritten-requires
+    wrapping-add-u64-requires
     returns-2)
