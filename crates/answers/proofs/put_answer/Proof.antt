@@ -1,4 +1,3 @@
--- `answers::put_answer` meets its contract. Assumes nothing.
 use Rattle.answers.proofs.Laws.{flag-most}
 use Rattle.answers.specs.Answers.{resultWord, popsWord, waypointsWord, clearWord, pointsText, answerText}
 use Rattle.text.proofs.Written.{Wrote, then, number-text-length}
@@ -13,6 +12,11 @@ use mathlib.Core.Path.{_≡_, _∙_}
 use borrow.Author.Needs.{needs}
 use Rattle.answers.proofs.put_answer.Statement.{statement}
 use Rattle.answers.proofs.put_answer.Tie as tie
+use Rattle.answers.proofs.put_answer.Reads as reads
+use Rattle.answers.proofs.put_answer.Lts as lts
+use Rattle.answers.proofs.flag.Reads as flag-reads
+use Rattle.answers.proofs.put_points.Reads as put-points-reads
+use Rattle.text.proofs.write.put_number_line.Reads as put-number-line-reads
 
 slice-aggregate-put-number-line : tie.Need-slice-aggregate-put-number-line
 slice-aggregate-put-number-line c = search needs

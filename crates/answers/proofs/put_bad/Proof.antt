@@ -1,4 +1,3 @@
--- `answers::put_bad` meets its contract. Assumes nothing.
 use Rattle.answers.specs.Answers.{resultWord, lineWord, badText}
 use Rattle.text.proofs.Written.{Wrote, then, number-text-length}
 use Rattle.text.specs.Render.{numberText}
@@ -8,6 +7,9 @@ use mathlib.Core.Path.{_≡_}
 use borrow.Author.Needs.{needs}
 use Rattle.answers.proofs.put_bad.Statement.{statement}
 use Rattle.answers.proofs.put_bad.Tie as tie
+use Rattle.answers.proofs.put_bad.Reads as reads
+use Rattle.answers.proofs.put_bad.Lts as lts
+use Rattle.text.proofs.write.put_number_line.Reads as put-number-line-reads
 
 slice-aggregate-put-number-line : tie.Need-slice-aggregate-put-number-line
 slice-aggregate-put-number-line c = search needs

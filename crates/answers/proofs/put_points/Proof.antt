@@ -1,4 +1,3 @@
--- `answers::put_points` meets its contract. Assumes nothing.
 use Rattle.answers.proofs.Laws.{points-end, points-count, points-stores}
 use Rattle.answers.specs.Answers.{pointWord, pointsText}
 use Rattle.paths.proofs.Laws.{none-bad, legal-here}
@@ -13,6 +12,10 @@ use Prim.Native.Nat.{ℕ, _+_, _-_, _*_, _%_, _≤_, _<_}
 use mathlib.Core.Path.{_≡_, refl, sym, ap, _∙_}
 use Rattle.answers.proofs.put_points.Statement.{statement}
 use Rattle.answers.proofs.put_points.Tie as tie
+use Rattle.answers.proofs.put_points.Reads as reads
+use Rattle.answers.proofs.put_points.Lts as lts
+use Rattle.paths.proofs.point_at.Reads as point-at-reads
+use Rattle.text.proofs.write.put_point_line.Reads as put-point-line-reads
 
 abbrev Inv-loop : tie.InvT-loop
 Inv-loop buf₀ at list k₀ i₀ word buf k i =

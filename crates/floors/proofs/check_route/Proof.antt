@@ -1,4 +1,3 @@
--- `floors::check_route` meets its contract. Assumes nothing.
 use Rattle.floors.proofs.Laws.{check-state, check-empty, check-odd, check-point, check-clear}
 use Rattle.grid.proofs.Tests.{of-legal}
 use lib.ListN.{length}
@@ -11,6 +10,11 @@ use mathlib.Core.Path.{_≡_, refl, sym, ap, _∙_}
 use borrow.Author.Needs.{needs}
 use Rattle.floors.proofs.check_route.Statement.{statement}
 use Rattle.floors.proofs.check_route.Tie as tie
+use Rattle.floors.proofs.check_route.Reads as reads
+use Rattle.floors.proofs.check_route.Lts as lts
+use Rattle.grid.proofs.legal.Reads as legal-reads
+use Rattle.paths.proofs.bad_point.Reads as bad-point-reads
+use Rattle.paths.proofs.clear.Reads as clear-reads
 
 legal-requires : tie.Need-legal-requires
 legal-requires c κs = search needs

@@ -1,4 +1,3 @@
--- `floors::refused` meets its contract. Assumes nothing.
 use Rattle.floors.proofs.Laws.{new-one}
 use Rattle.floors.specs.Floors.{origin}
 use Rattle.grid.specs.declared.Outcome.the-variants.{Refused as RefusedOutcome}
@@ -8,6 +7,9 @@ use mathlib.Core.Path.{_≡_, ap, _∙_}
 use borrow.Author.Needs.{needs}
 use Rattle.floors.proofs.refused.Statement.{statement}
 use Rattle.floors.proofs.refused.Tie as tie
+use Rattle.floors.proofs.refused.Reads as reads
+use Rattle.floors.proofs.refused.Lts as lts
+use Rattle.grid.proofs.new.Reads as new-reads
 
 new-requires : tie.Need-new-requires
 new-requires c κs = search needs

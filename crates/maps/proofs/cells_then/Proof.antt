@@ -1,4 +1,3 @@
--- `maps::cells_then` meets its contract. Assumes nothing.
 use Rattle.maps.proofs.Laws.{then-last, then-short, then-other, then-more}
 use Rattle.maps.specs.Maps.{cellsThen}
 use lib.ListN.{drop}
@@ -9,6 +8,9 @@ use native.Mathlib.Omega.{arith}
 use mathlib.Core.Path.{_≡_, refl, sym, _∙_}
 use Rattle.maps.proofs.cells_then.Statement.{statement}
 use Rattle.maps.proofs.cells_then.Tie as tie
+use Rattle.maps.proofs.cells_then.Reads as reads
+use Rattle.maps.proofs.cells_then.Lts as lts
+use Rattle.maps.proofs.is_cell.Reads as is-cell-reads
 
 abbrev Inv-loop : tie.InvT-loop
 Inv-loop s at w i₀ left₀ i left = cellsThen left (drop i s) ≡ cellsThen w (drop at s)

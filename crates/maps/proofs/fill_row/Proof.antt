@@ -1,4 +1,3 @@
--- `maps::fill_row` meets its contract. Assumes nothing.
 use Rattle.maps.proofs.Laws.{marks-done, marks-more}
 use Rattle.maps.specs.Maps.{marks}
 use lib.Seq.{sets}
@@ -10,6 +9,9 @@ use Prim.Native.Nat.{ℕ, _+_, _-_, _≤_}
 use mathlib.Core.Path.{_≡_, refl, sym, ap, _∙_}
 use Rattle.maps.proofs.fill_row.Statement.{statement}
 use Rattle.maps.proofs.fill_row.Tie as tie
+use Rattle.maps.proofs.fill_row.Reads as reads
+use Rattle.maps.proofs.fill_row.Lts as lts
+use Rattle.maps.proofs.mark.Reads as mark-reads
 
 abbrev Inv-loop : tie.InvT-loop
 Inv-loop s at w blocked₀ cell i₀ k₀ left₀ blocked i k left =

@@ -1,4 +1,3 @@
--- `maps::flag_line` meets its contract. Assumes nothing.
 use Rattle.maps.proofs.Laws.{flag-is}
 use Rattle.text.specs.declared.Num.the-variants.{Whole, Wrong}
 use lib.ListN.{drop}
@@ -10,6 +9,9 @@ use mathlib.Core.Path.{_≡_, refl, sym, ap, _∙_}
 use borrow.Author.Needs.{needs}
 use Rattle.maps.proofs.flag_line.Statement.{statement}
 use Rattle.maps.proofs.flag_line.Tie as tie
+use Rattle.maps.proofs.flag_line.Reads as reads
+use Rattle.maps.proofs.flag_line.Lts as lts
+use Rattle.text.proofs.number_line.Reads as number-line-reads
 
 number-line-requires : tie.Need-number-line-requires
 number-line-requires c κs = search needs

@@ -1,7 +1,8 @@
--- `maps::is_cell` meets its contract. Assumes nothing.
 use borrow.Author.Tests.{eq-eqb, ne-eqb}
 use Rattle.maps.proofs.is_cell.Statement.{statement}
 use Rattle.maps.proofs.is_cell.Tie as tie
+use Rattle.maps.proofs.is_cell.Reads as reads
+use Rattle.maps.proofs.is_cell.Lts as lts
 
 returns : tie.Need-returns
 returns c = rw (eq-eqb (c .before .args .b) 46 (c .if1 .taken))

@@ -1,7 +1,8 @@
--- `maps::mark` meets its contract. Assumes nothing.
 use borrow.Author.Tests.{eq-eqb, ne-eqb}
 use Rattle.maps.proofs.mark.Statement.{statement}
 use Rattle.maps.proofs.mark.Tie as tie
+use Rattle.maps.proofs.mark.Reads as reads
+use Rattle.maps.proofs.mark.Lts as lts
 
 returns : tie.Need-returns
 returns c = rw (eq-eqb (c .before .args .b) 35 (c .if1 .taken))

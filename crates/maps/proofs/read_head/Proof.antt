@@ -1,4 +1,3 @@
--- `maps::read_head` meets its contract. Assumes nothing.
 use Rattle.maps.proofs.Laws.{SBounded, size-bounded, flag-bounded, side-most, head-from}
 use Rattle.maps.specs.Maps.{sizeLine, flagLine, widthWord, heightWord, diagonalWord, startWord, goalWord, afterWidth, afterHeight, afterDiagonal, afterStart, afterGoal, headOf}
 use Rattle.text.proofs.Steps.{Bounded, PBounded, point-line-bounded}
@@ -15,6 +14,11 @@ use mathlib.Core.Path.{_≡_, refl, sym, ap, _∙_, subst}
 use borrow.Author.Needs.{needs}
 use Rattle.maps.proofs.read_head.Statement.{statement}
 use Rattle.maps.proofs.read_head.Tie as tie
+use Rattle.maps.proofs.read_head.Reads as reads
+use Rattle.maps.proofs.read_head.Lts as lts
+use Rattle.maps.proofs.flag_line.Reads as flag-line-reads
+use Rattle.maps.proofs.size_line.Reads as size-line-reads
+use Rattle.text.proofs.point_line.Reads as point-line-reads
 
 -- after the width
 module _ (e : tie.After-w) where

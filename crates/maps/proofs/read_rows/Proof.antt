@@ -1,4 +1,3 @@
--- `maps::read_rows` meets its contract. Assumes nothing.
 use Rattle.maps.proofs.Laws.{row-length, row-room, rows-bad, rows-more, rows-rest, rows-good, cells-done, cells-bad, cells-more}
 use Rattle.maps.specs.Maps.{rowsOf, cellsOf}
 use lib.Seq.{sets}
@@ -11,6 +10,10 @@ use Prim.Native.Nat.{ℕ, _+_, _-_, _*_, _≤_}
 use mathlib.Core.Path.{_≡_, refl, sym, ap, _∙_}
 use Rattle.maps.proofs.read_rows.Statement.{statement}
 use Rattle.maps.proofs.read_rows.Tie as tie
+use Rattle.maps.proofs.read_rows.Reads as reads
+use Rattle.maps.proofs.read_rows.Lts as lts
+use Rattle.maps.proofs.fill_row.Reads as fill-row-reads
+use Rattle.maps.proofs.row_ok.Reads as row-ok-reads
 
 abbrev Inv-loop : tie.InvT-loop
 Inv-loop s from w h blocked₀ at₀ line₀ cell₀ left₀ blocked at line cell left =

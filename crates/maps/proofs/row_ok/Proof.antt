@@ -1,4 +1,3 @@
--- `maps::row_ok` meets its contract. Assumes nothing.
 use Rattle.maps.proofs.Laws.{row-other, row-then}
 use Rattle.maps.specs.Maps.{rowWord}
 use Rattle.text.proofs.Steps.{word-length}
@@ -10,6 +9,10 @@ use mathlib.Core.Path.{_≡_, sym, _∙_}
 use borrow.Author.Needs.{needs}
 use Rattle.maps.proofs.row_ok.Statement.{statement}
 use Rattle.maps.proofs.row_ok.Tie as tie
+use Rattle.maps.proofs.row_ok.Reads as reads
+use Rattle.maps.proofs.row_ok.Lts as lts
+use Rattle.maps.proofs.cells_then.Reads as cells-then-reads
+use Rattle.text.proofs.starts.Reads as starts-reads
 
 slice-aggregate-starts : tie.Need-slice-aggregate-starts
 slice-aggregate-starts c = search needs

@@ -1,4 +1,3 @@
--- `paths::bad_point` meets its contract. Assumes nothing.
 use Rattle.paths.proofs.Laws.{bad-here, bad-next, bad-end}
 use Rattle.paths.specs.declared.Bad.the-variants.{At}
 use Rattle.paths.specs.Walks.{firstBad, pointAt}
@@ -13,6 +12,10 @@ use mathlib.Core.Bool.{true, false}
 use mathlib.Core.Path.{_≡_, refl, sym, ap, _∙_}
 use Rattle.paths.proofs.bad_point.Statement.{statement}
 use Rattle.paths.proofs.bad_point.Tie as tie
+use Rattle.paths.proofs.bad_point.Reads as reads
+use Rattle.paths.proofs.bad_point.Lts as lts
+use Rattle.paths.proofs.point_at.Reads as point-at-reads
+use Rattle.points.proofs.Point.legal.Reads as legal-reads
 
 abbrev Inv-loop : tie.InvT-loop
 Inv-loop list i₀ i = (i ≤ length list) × (i % 2 ≡ 0) × (firstBad (drop i list) ≡ firstBad list)

@@ -1,4 +1,3 @@
--- `paths::clear` meets its contract. Assumes nothing.
 use Rattle.paths.proofs.Laws.{clear-end, clear-not, clear-more}
 use Rattle.paths.specs.Walks.{allFree}
 use lib.ListN.{length, drop}
@@ -10,6 +9,10 @@ use Prim.Native.Nat.{_-_, _%_}
 use mathlib.Core.Path.{_≡_, refl, sym, _∙_}
 use Rattle.paths.proofs.clear.Statement.{statement}
 use Rattle.paths.proofs.clear.Tie as tie
+use Rattle.paths.proofs.clear.Reads as reads
+use Rattle.paths.proofs.clear.Lts as lts
+use Rattle.paths.proofs.free_at.Reads as free-at-reads
+use Rattle.paths.proofs.point_at.Reads as point-at-reads
 
 abbrev Inv-loop : tie.InvT-loop
 Inv-loop blocked w h list i₀ i = (i % 2 ≡ 0) × (allFree w h blocked (drop i list) ≡ allFree w h blocked (drop 2 list))

@@ -1,4 +1,3 @@
--- `paths::count` meets its contract. Assumes nothing.
 use Rattle.paths.proofs.Laws.{none-bad, legal-here, length-here, path-end, path-length, counted-over, counted-few}
 use Rattle.paths.specs.declared.Bad.the-variants.{Nowhere}
 use Rattle.paths.specs.Walks.{firstBad, pathFrom, pathOf, pointAt}
@@ -11,6 +10,10 @@ use Prim.Native.Nat.{_+_, _*_, _-_, _%_, _≤_, _<_}
 use mathlib.Core.Path.{_≡_, refl, sym, ap, _∙_}
 use Rattle.paths.proofs.count.Statement.{statement}
 use Rattle.paths.proofs.count.Tie as tie
+use Rattle.paths.proofs.count.Reads as reads
+use Rattle.paths.proofs.count.Lts as lts
+use Rattle.paths.proofs.point_at.Reads as point-at-reads
+use Rattle.paths.proofs.span.Reads as span-reads
 
 abbrev Inv-loop : tie.InvT-loop
 Inv-loop list room left₀ p₀ i₀ left p i =

@@ -1,4 +1,3 @@
--- `paths::free_at` meets its contract. Assumes nothing.
 use Rattle.paths.proofs.Laws.{free-out, free-in}
 use Rattle.cells.specs.Cells.{cellOf}
 use lib.ListN.{getD}
@@ -10,6 +9,9 @@ use mathlib.Core.Path.{_≡_, sym, ap, _∙_, subst}
 use borrow.Author.Needs.{needs}
 use Rattle.paths.proofs.free_at.Statement.{statement}
 use Rattle.paths.proofs.free_at.Tie as tie
+use Rattle.paths.proofs.free_at.Reads as reads
+use Rattle.paths.proofs.free_at.Lts as lts
+use Rattle.cells.proofs.cell_of.Reads as cell-of-reads
 
 cell-of-requires : tie.Need-cell-of-requires
 cell-of-requires c κs = search needs

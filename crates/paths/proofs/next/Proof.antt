@@ -1,4 +1,3 @@
--- `paths::next` meets its contract. Assumes nothing.
 use mir.Val.{toZ, ofZ}
 use mir.Syntax.{w32}
 use Rattle.paths.proofs.Laws.{both-in}
@@ -8,6 +7,8 @@ use mathlib.Core.Path.{_≡_, _∙_}
 use Rattle.paths.proofs.next.Statement.{statement}
 use Rattle.paths.proofs.next.Tie as tie
 use Rattle.paths.proofs.next.Reads as reads
+use Rattle.paths.proofs.next.Lts as lts
+use Rattle.paths.proofs.closer.Reads as closer-reads
 
 closer-requires : tie.Need-closer-requires
 closer-requires c κs =

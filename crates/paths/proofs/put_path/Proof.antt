@@ -1,4 +1,3 @@
--- `paths::put_path` meets its contract. Assumes nothing.
 use Rattle.paths.proofs.Laws.{none-bad, legal-here, length-here, stores-here, path-end, path-length, path-stores}
 use Rattle.paths.specs.declared.Bad.the-variants.{Nowhere}
 use Rattle.paths.specs.Walks.{firstBad, pathFrom}
@@ -12,6 +11,12 @@ use Prim.Native.Nat.{_+_, _*_, _-_, _%_, _≤_}
 use mathlib.Core.Path.{_≡_, refl, sym, ap, _∙_}
 use Rattle.paths.proofs.put_path.Statement.{statement}
 use Rattle.paths.proofs.put_path.Tie as tie
+use Rattle.paths.proofs.put_path.Reads as reads
+use Rattle.paths.proofs.put_path.Lts as lts
+use Rattle.paths.proofs.point_at.Reads as point-at-reads
+use Rattle.paths.proofs.put.Reads as put-reads
+use Rattle.paths.proofs.put_walk.Reads as put-walk-reads
+use Rattle.paths.proofs.span.Reads as span-reads
 
 abbrev Inv-loop : tie.InvT-loop
 Inv-loop list out₀ p₀ at₀ i₀ out p at i =

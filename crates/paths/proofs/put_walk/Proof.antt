@@ -1,4 +1,3 @@
--- `paths::put_walk` meets its contract. Assumes nothing.
 use Rattle.paths.proofs.Laws.{walk-here, walk-done}
 use Rattle.paths.proofs.Laws.{walk-turn, walk-done}
 use Rattle.paths.specs.Walks.{walkOf}
@@ -12,6 +11,10 @@ use Prim.Native.Nat.{_+_, _*_, _-_, _≤_}
 use mathlib.Core.Path.{_≡_, refl, sym, ap, _∙_}
 use Rattle.paths.proofs.put_walk.Statement.{statement}
 use Rattle.paths.proofs.put_walk.Tie as tie
+use Rattle.paths.proofs.put_walk.Reads as reads
+use Rattle.paths.proofs.put_walk.Lts as lts
+use Rattle.paths.proofs.next.Reads as next-reads
+use Rattle.paths.proofs.put.Reads as put-reads
 
 abbrev Inv-loop : tie.InvT-loop
 Inv-loop out₀ at q steps here₀ k₀ left₀ out here k left =

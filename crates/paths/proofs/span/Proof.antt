@@ -1,4 +1,3 @@
--- `paths::span` meets its contract. Assumes nothing.
 use lib.IntN.{ℤ, natAbs, _-ℤ_}
 use Prim.Native.Nat.{ℕ}
 use mathlib.Core.Path.{_≡_, _∙_, ap}
@@ -8,6 +7,8 @@ use borrow.Author.Needs.{needs}
 use Rattle.paths.proofs.span.Statement.{statement}
 use Rattle.paths.proofs.span.Tie as tie
 use Rattle.paths.proofs.span.Reads as reads
+use Rattle.paths.proofs.span.Lts as lts
+use Rattle.points.proofs.gap.Reads as gap-reads
 
 gap-requires : tie.Need-gap-requires
 gap-requires c κs =

@@ -1,4 +1,3 @@
--- `paths::waypoints_to_path` meets its contract. Assumes nothing.
 use Rattle.paths.proofs.Laws.{few-room, answer-empty, answer-odd, answer-point, answer-counted}
 use Rattle.paths.specs.declared.Counted.the-variants.{Few, Over}
 use Rattle.paths.specs.declared.Bad.the-variants.{At, Nowhere}
@@ -12,6 +11,11 @@ use mathlib.Core.Path.{_≡_, refl, sym, ap, _∙_}
 use borrow.Author.Needs.{needs}
 use Rattle.paths.proofs.waypoints_to_path.Statement.{statement}
 use Rattle.paths.proofs.waypoints_to_path.Tie as tie
+use Rattle.paths.proofs.waypoints_to_path.Reads as reads
+use Rattle.paths.proofs.waypoints_to_path.Lts as lts
+use Rattle.paths.proofs.bad_point.Reads as bad-point-reads
+use Rattle.paths.proofs.count.Reads as count-reads
+use Rattle.paths.proofs.put_path.Reads as put-path-reads
 
 returns : tie.Need-returns
 returns c =

@@ -1,4 +1,3 @@
--- `points::sign_between` meets its contract. Assumes nothing.
 use mathlib.Core.Path.{_≡_, sym, ap}
 use lib.IntN.{_-ℤ_}
 use mir.Facts.{toZ-ofZ}
@@ -8,6 +7,8 @@ use Rattle.points.specs.Compass.{signOf}
 use Rattle.points.proofs.Signed.{diff-fits, below-zero, above-zero, zero-bits, bits-zero}
 use Rattle.points.proofs.sign_between.Statement.{statement}
 use Rattle.points.proofs.sign_between.Tie as tie
+use Rattle.points.proofs.sign_between.Reads as reads
+use Rattle.points.proofs.sign_between.Lts as lts
 
 diff : (s : tie.Start) → SFits w32 (s .args .b -ℤ s .args .a)
 diff s = diff-fits (s .args .a) (s .args .b) (s .pre .0) (s .pre .1)

@@ -5,6 +5,7 @@ use lib.ListN.{length}
 use borrow.Author.Needs.{needs}
 use Rattle.replay_texts.proofs.unlike.Statement.{statement}
 use Rattle.replay_texts.proofs.unlike.Tie as tie
+use Rattle.std.proofs.num.wrapping_add_u64.Reads as wrapping-add-u64-reads
 
 abbrev Inv-loop : tie.InvT-loop
 Inv-loop a b wrong₀ i₀ wrong i = i ≤ length a

@@ -1,4 +1,3 @@
--- `route::main` meets its contract. Assumes nothing.
 use Rattle.router.proofs.Short.{within}
 use lib.Seq.{length-take-le}
 use lib.ListN.{length, length-replicate}
@@ -8,6 +7,12 @@ use mathlib.Core.Path.{_≡_, sym}
 use borrow.Author.Needs.{needs}
 use Rattle.route.proofs.main.Statement.{statement}
 use Rattle.route.proofs.main.Tie as tie
+use Rattle.route.proofs.main.Reads as reads
+use Rattle.route.proofs.main.Lts as lts
+use Rattle.io.proofs.read_full.Reads as read-full-reads
+use Rattle.io.proofs.write_all.Reads as write-all-reads
+use Rattle.os.proofs.fail.Reads as fail-reads
+use Rattle.router.proofs.route.Reads as route-reads
 
 printed : (e : tie.After-route) → e .route .result ≤ length (e .route .last .1 .0)
 printed e = within _ _ _ _ (e .route .ensures) (omega (arith, length-replicate {A = ℕ} 82100 0))

@@ -1,4 +1,3 @@
--- `router::put_outcome` meets its contract. Assumes nothing.
 use Rattle.router.proofs.Laws.{by-text}
 use Rattle.router.specs.Route.{Within, foundText, outcomeText}
 use Rattle.finder.specs.declared.Outcome.the-variants.{Found, Refused}
@@ -12,6 +11,10 @@ use mathlib.Core.Path.{_≡_, refl, sym, ap, _∙_, subst}
 use borrow.Author.Needs.{needs}
 use Rattle.router.proofs.put_outcome.Statement.{statement}
 use Rattle.router.proofs.put_outcome.Tie as tie
+use Rattle.router.proofs.put_outcome.Reads as reads
+use Rattle.router.proofs.put_outcome.Lts as lts
+use Rattle.router.proofs.put_found.Reads as put-found-reads
+use Rattle.router.proofs.put_refused.Reads as put-refused-reads
 
 held : (e : tie.After-outcome2) → 2 * e .outcome2 .given .0 .0 ≤ length (now (e .before .before .before .args .list))
 held e =

@@ -1,4 +1,3 @@
--- `router::put_refused` meets its contract. Assumes nothing.
 use Rattle.router.proofs.Laws.{by-text, told-low}
 use Rattle.router.specs.Route.{refusedText}
 use Rattle.answers.specs.Answers.{answerText}
@@ -13,6 +12,10 @@ use mathlib.Core.Path.{_≡_, refl, sym, ap, _∙_}
 use borrow.Author.Needs.{needs}
 use Rattle.router.proofs.put_refused.Statement.{statement}
 use Rattle.router.proofs.put_refused.Tie as tie
+use Rattle.router.proofs.put_refused.Reads as reads
+use Rattle.router.proofs.put_refused.Lts as lts
+use Rattle.answers.proofs.put_answer.Reads as put-answer-reads
+use Rattle.points.proofs.Refusal.told.Reads as told-reads
 
 told-requires : tie.Need-told-requires
 told-requires c κs = search needs

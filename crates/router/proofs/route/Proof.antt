@@ -1,4 +1,3 @@
--- `router::route` meets its contract. Assumes nothing.
 use Rattle.router.proofs.Laws.{by-text, few-pops, few-points, line-low, route-bad, route-done}
 use Rattle.router.specs.Route.{Within, blank, exactOf, outcomeText, searchText, routeText}
 use Rattle.floors.specs.Floors.{readOf}
@@ -17,6 +16,14 @@ use mathlib.Core.Path.{_≡_, refl, sym, ap, _∙_, subst}
 use borrow.Author.Needs.{needs}
 use Rattle.router.proofs.route.Statement.{statement}
 use Rattle.router.proofs.route.Tie as tie
+use Rattle.router.proofs.route.Reads as reads
+use Rattle.router.proofs.route.Lts as lts
+use Rattle.answers.proofs.put_bad.Reads as put-bad-reads
+use Rattle.floors.proofs.read_map.Reads as read-map-reads
+use Rattle.grid.proofs.generate_components.Reads as generate-components-reads
+use Rattle.points.proofs.Refusal.told.Reads as told-reads
+use Rattle.router.proofs.put_outcome.Reads as put-outcome-reads
+use Rattle.router.proofs.searched.Reads as searched-reads
 
 -- a refused text
 module _ (e : tie.After-outcome) where

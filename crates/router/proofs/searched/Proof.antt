@@ -1,4 +1,3 @@
--- `router::searched` meets its contract. Assumes nothing.
 use Rattle.router.specs.Route.{settingsFor, room, exactOf}
 use Rattle.waypoints.specs.Waypoints.{singleOf, singlePlan}
 use Rattle.finder.specs.Find.{answerOf, outAfter}
@@ -10,6 +9,10 @@ use mathlib.Core.Path.{_≡_, refl, sym, ap, _∙_}
 use borrow.Author.Needs.{needs}
 use Rattle.router.proofs.searched.Statement.{statement}
 use Rattle.router.proofs.searched.Tie as tie
+use Rattle.router.proofs.searched.Reads as reads
+use Rattle.router.proofs.searched.Lts as lts
+use Rattle.costs.proofs.Settings.new.Reads as new-reads
+use Rattle.waypoints.proofs.get_waypoints_single_goal.Reads as get-waypoints-single-goal-reads
 
 new-requires : tie.Need-new-requires
 new-requires c κs = search needs

@@ -1,4 +1,3 @@
--- `text::number_line` meets its contract. Assumes nothing.
 use mathlib.Core.Path.{_≡_, refl, sym, ap, _∙_, subst}
 use mathlib.Core.Bool.{true, false}
 use Prim.Native.Nat.{ℕ, _+_, _≤_, _<_}
@@ -12,6 +11,10 @@ use Rattle.text.proofs.Steps.{Bounded, number-bounded, word-length, byt
 use borrow.Author.Needs.{needs}
 use Rattle.text.proofs.number_line.Statement.{statement}
 use Rattle.text.proofs.number_line.Tie as tie
+use Rattle.text.proofs.number_line.Reads as reads
+use Rattle.text.proofs.number_line.Lts as lts
+use Rattle.text.proofs.number.Reads as number-reads
+use Rattle.text.proofs.starts.Reads as starts-reads
 
 -- the word stands there
 module _ (e : tie.Else1) where

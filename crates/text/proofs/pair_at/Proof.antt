@@ -1,4 +1,3 @@
--- `text::pair_at` meets its contract. Assumes nothing.
 use mathlib.Core.Path.{_≡_, refl, sym, ap, _∙_, subst}
 use Prim.Native.Nat.{ℕ, _+_, _≤_, _<_}
 use native.Mathlib.Omega.{arith}
@@ -16,6 +15,9 @@ use Rattle.text.proofs.Steps.{CBounded, coord-bounded, pair-off, pair-s
 use borrow.Author.Needs.{needs}
 use Rattle.text.proofs.pair_at.Statement.{statement}
 use Rattle.text.proofs.pair_at.Tie as tie
+use Rattle.text.proofs.pair_at.Reads as reads
+use Rattle.text.proofs.pair_at.Lts as lts
+use Rattle.text.proofs.coordinate.Reads as coordinate-reads
 
 -- the first coordinate
 module _ (e : tie.After-x) where

@@ -1,4 +1,3 @@
--- `text::point_line` meets its contract. Assumes nothing.
 use mathlib.Core.Path.{_≡_, refl, sym, ap, _∙_, subst}
 use mathlib.Core.Bool.{true, false}
 use Prim.Native.Nat.{ℕ, _+_, _≤_, _<_}
@@ -13,6 +12,10 @@ use Rattle.text.proofs.Steps.{PBounded, pair-bounded, word-length, byte
 use borrow.Author.Needs.{needs}
 use Rattle.text.proofs.point_line.Statement.{statement}
 use Rattle.text.proofs.point_line.Tie as tie
+use Rattle.text.proofs.point_line.Reads as reads
+use Rattle.text.proofs.point_line.Lts as lts
+use Rattle.text.proofs.pair_at.Reads as pair-at-reads
+use Rattle.text.proofs.starts.Reads as starts-reads
 
 -- the word stands there
 module _ (e : tie.Else1) where

@@ -1,4 +1,3 @@
--- `text::starts` meets its contract. Assumes nothing.
 use mathlib.Core.Path.{_≡_, refl, sym, _∙_}
 use Prim.Native.Nat.{_-_}
 use native.Mathlib.Omega.{arith}
@@ -8,6 +7,8 @@ use Rattle.text.specs.Grammar.{startsWith}
 use Rattle.text.proofs.Steps.{word-done, word-short, word-other, word-step}
 use Rattle.text.proofs.starts.Statement.{statement}
 use Rattle.text.proofs.starts.Tie as tie
+use Rattle.text.proofs.starts.Reads as reads
+use Rattle.text.proofs.starts.Lts as lts
 
 abbrev Inv-loop : tie.InvT-loop
 Inv-loop s at word i₀ j₀ i j = startsWith (drop j word) (drop i s) ≡ startsWith word (drop at s)

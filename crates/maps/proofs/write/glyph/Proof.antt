@@ -1,7 +1,8 @@
--- `maps::write::glyph` meets its contract. Assumes nothing.
 use borrow.Author.Tests.{eq-eqb, ne-eqb}
 use Rattle.maps.proofs.write.glyph.Statement.{statement}
 use Rattle.maps.proofs.write.glyph.Tie as tie
+use Rattle.maps.proofs.write.glyph.Reads as reads
+use Rattle.maps.proofs.write.glyph.Lts as lts
 
 returns : tie.Need-returns
 returns c = rw (eq-eqb (c .before .args .b) 0 (c .if1 .taken))

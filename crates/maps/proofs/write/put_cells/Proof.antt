@@ -1,4 +1,3 @@
--- `maps::write::put_cells` meets its contract. Assumes nothing.
 use Rattle.maps.proofs.Shows.{shown-done, shown-more}
 use Rattle.maps.specs.Shown.{shown}
 use lib.Seq.{sets}
@@ -10,6 +9,9 @@ use Prim.Native.Nat.{ℕ, _+_, _-_, _≤_}
 use mathlib.Core.Path.{_≡_, refl, sym, ap, _∙_}
 use Rattle.maps.proofs.write.put_cells.Statement.{statement}
 use Rattle.maps.proofs.write.put_cells.Tie as tie
+use Rattle.maps.proofs.write.put_cells.Reads as reads
+use Rattle.maps.proofs.write.put_cells.Lts as lts
+use Rattle.maps.proofs.write.glyph.Reads as glyph-reads
 
 abbrev Inv-loop : tie.InvT-loop
 Inv-loop buf₀ at blocked cell w k₀ i₀ left₀ buf k i left =

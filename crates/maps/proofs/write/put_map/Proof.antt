@@ -1,4 +1,3 @@
--- `maps::write::put_map` meets its contract. Assumes nothing.
 use Rattle.maps.proofs.Shows.{flag-most, rows-text-length, rows-most}
 use Rattle.maps.proofs.Laws.{side-most}
 use Rattle.maps.specs.Shown.{rowsText, mapText}
@@ -16,6 +15,12 @@ use mathlib.Core.Path.{_≡_, refl, sym, ap, _∙_}
 use borrow.Author.Needs.{needs}
 use Rattle.maps.proofs.write.put_map.Statement.{statement}
 use Rattle.maps.proofs.write.put_map.Tie as tie
+use Rattle.maps.proofs.write.put_map.Reads as reads
+use Rattle.maps.proofs.write.put_map.Lts as lts
+use Rattle.maps.proofs.write.flag.Reads as flag-reads
+use Rattle.maps.proofs.write.put_rows.Reads as put-rows-reads
+use Rattle.text.proofs.write.put_number_line.Reads as put-number-line-reads
+use Rattle.text.proofs.write.put_point_line.Reads as put-point-line-reads
 
 wide : (s : tie.Start) → s .args .m .width ≤ mostSide
 wide s = side-most (s .args .m .width) (s .pre .0 .wide)

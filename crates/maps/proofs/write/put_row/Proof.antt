@@ -1,4 +1,3 @@
--- `maps::write::put_row` meets its contract. Assumes nothing.
 use Rattle.maps.proofs.Shows.{shown-length, row-stores}
 use Rattle.maps.specs.Shown.{shown}
 use Rattle.maps.specs.Maps.{rowWord}
@@ -11,6 +10,10 @@ use mathlib.Core.Path.{_≡_, refl, sym, ap, _∙_}
 use borrow.Author.Needs.{needs}
 use Rattle.maps.proofs.write.put_row.Statement.{statement}
 use Rattle.maps.proofs.write.put_row.Tie as tie
+use Rattle.maps.proofs.write.put_row.Reads as reads
+use Rattle.maps.proofs.write.put_row.Lts as lts
+use Rattle.maps.proofs.write.put_cells.Reads as put-cells-reads
+use Rattle.text.proofs.write.put_word.Reads as put-word-reads
 
 slice-aggregate-put-word : tie.Need-slice-aggregate-put-word
 slice-aggregate-put-word c = search needs

@@ -1,4 +1,3 @@
--- `maps::write::put_rows` meets its contract. Assumes nothing.
 use Rattle.maps.proofs.Shows.{zero-rows, rows-text-done, rows-text-more}
 use Rattle.maps.proofs.Laws.{row-room}
 use Rattle.maps.specs.Shown.{rowsText}
@@ -11,6 +10,9 @@ use Prim.Native.Nat.{ℕ, _+_, _-_, _*_, _≤_}
 use mathlib.Core.Path.{_≡_, refl, sym, ap, _∙_}
 use Rattle.maps.proofs.write.put_rows.Statement.{statement}
 use Rattle.maps.proofs.write.put_rows.Tie as tie
+use Rattle.maps.proofs.write.put_rows.Reads as reads
+use Rattle.maps.proofs.write.put_rows.Lts as lts
+use Rattle.maps.proofs.write.put_row.Reads as put-row-reads
 
 abbrev Inv-loop : tie.InvT-loop
 Inv-loop buf₀ at blocked w h k₀ cell₀ left₀ buf k cell left =

@@ -1,4 +1,3 @@
--- `points::Point::legal` meets its contract. Assumes nothing.
 use mathlib.Core.Path.{_≡_, sym, ap, _∙_}
 use mathlib.Core.Bool.{Bool, true, false, _&&_}
 use borrow.Author.Needs.{needs}
@@ -7,6 +6,9 @@ use mir.Facts.{toZ-ofZ}
 use Rattle.points.specs.Plane.{inRange}
 use Rattle.points.proofs.Point.legal.Statement.{statement}
 use Rattle.points.proofs.Point.legal.Tie as tie
+use Rattle.points.proofs.Point.legal.Reads as reads
+use Rattle.points.proofs.Point.legal.Lts as lts
+use Rattle.points.proofs.in_range.Reads as in-range-reads
 
 in-range-requires : tie.Need-in-range-requires
 in-range-requires c κs = search needs

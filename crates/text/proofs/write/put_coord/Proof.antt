@@ -1,4 +1,3 @@
--- `text::write::put_coord` meets its contract. Assumes nothing.
 use borrow.Author.Needs.{needs}
 use mathlib.Core.Path.{_≡_, refl, sym, ap, _∙_}
 use mathlib.Core.Bool.{true, false}
@@ -15,6 +14,9 @@ use Rattle.points.proofs.Signed.{in-fits, nonneg-of, nonneg-neg, natAbs-minus, 
 use Rattle.text.proofs.Written.{text-minus, text-plus, minus-in, abs-in}
 use Rattle.text.proofs.write.put_coord.Statement.{statement}
 use Rattle.text.proofs.write.put_coord.Tie as tie
+use Rattle.text.proofs.write.put_coord.Reads as reads
+use Rattle.text.proofs.write.put_coord.Lts as lts
+use Rattle.text.proofs.write.put_number.Reads as put-number-reads
 
 slice-write-buf : tie.Need-slice-write-buf
 slice-write-buf c = search needs

@@ -1,4 +1,3 @@
--- `text::write::put_number` meets its contract. Assumes nothing.
 use Rattle.text.proofs.Written.{digits1, digits2, digits3, digits4, digits5, store2, store3, store4, store5}
 use lib.ListN.{length-set}
 use denote.Ref.{now}
@@ -7,6 +6,8 @@ use mathlib.Core.Path.{_≡_, refl}
 use borrow.Author.Needs.{needs}
 use Rattle.text.proofs.write.put_number.Statement.{statement}
 use Rattle.text.proofs.write.put_number.Tie as tie
+use Rattle.text.proofs.write.put_number.Reads as reads
+use Rattle.text.proofs.write.put_number.Lts as lts
 
 add-buf : tie.Need-add-buf
 add-buf c = search needs

@@ -1,4 +1,3 @@
--- `text::write::put_number_line` meets its contract. Assumes nothing.
 use Rattle.text.proofs.Written.{digits-length, number-stores}
 use Rattle.text.specs.Render.{digitsOf, numberText}
 use lib.Seq.{sets}
@@ -11,30 +10,40 @@ use mathlib.Core.Path.{_≡_, refl, sym, ap, _∙_}
 use borrow.Author.Needs.{needs}
 use Rattle.text.proofs.write.put_number_line.Statement.{statement}
 use Rattle.text.proofs.write.put_number_line.Tie as tie
+use Rattle.text.proofs.write.put_number_line.Reads as reads
+use Rattle.text.proofs.write.put_number_line.Lts as lts
+use Rattle.text.proofs.write.put_number.Reads as put-number-reads
+use Rattle.text.proofs.write.put_word.Reads as put-word-reads
 
+-- src/write.rt:76:9
 put-word-requires : tie.Need-put-word-requires
 put-word-requires c κs = search needs
 
+-- src/write.rt:77:9
 put-number-requires : tie.Need-put-number-requires
 put-number-requires c κs = search needs
 
+-- src/write.rt:78:5
 slice-write-buf : tie.Need-slice-write-buf
 slice-write-buf c =
     let d = c .before .before .put-number in
     let w = c .before .before .before .before .before .before .put-word in
     omega (arith, d .ensures .0, d .kept .0, w .ensures .0, w .kept .0, digits-length (c .before .before .before .before .before .before .before .before .before .before .args .n), c .before .before .before .before .before .before .before .before .before .before .pre)
 
+-- src/write.rt:79:5
 add-result : tie.Need-add-result
 add-result c =
     let d = c .before .before .put-number in
     let w = c .before .before .before .before .before .before .put-word in
     omega (arith, d .ensures .0, w .ensures .0, digits-length (c .before .before .before .before .before .before .before .before .before .before .args .n), c .before .before .before .before .before .before .before .before .before .before .pre, c .before .before .before .before .before .before .before .before .before .before .good)
 
+-- src/write.rt:72:1
 same-length : tie.Need-same-length
 same-length c =
     let d = c .before .before .put-number in
     length-set (d .last .0) (d .result) 10 ∙ d .kept .0 ∙ c .before .before .before .before .before .before .put-word .kept .0
 
+-- src/write.rt:72:1
 returns : tie.Need-returns
 returns c =
     let d = c .before .before .put-number in

@@ -1,4 +1,3 @@
--- `text::write::put_point_line` meets its contract. Assumes nothing.
 use Rattle.text.proofs.Written.{coord-length, point-stores}
 use Rattle.text.specs.Render.{coordText, pairText}
 use Rattle.points.proofs.Signed.{parts, reads, read-in}
@@ -16,6 +15,9 @@ use borrow.Author.Needs.{needs}
 use Rattle.text.proofs.write.put_point_line.Statement.{statement}
 use Rattle.text.proofs.write.put_point_line.Tie as tie
 use Rattle.text.proofs.write.put_point_line.Reads as reads
+use Rattle.text.proofs.write.put_point_line.Lts as lts
+use Rattle.text.proofs.write.put_coord.Reads as put-coord-reads
+use Rattle.text.proofs.write.put_word.Reads as put-word-reads
 
 -- after the first coordinate
 module _ (x : tie.After-put-coord) where

@@ -1,4 +1,3 @@
--- `text::write::put_word` meets its contract. Assumes nothing.
 use mathlib.Core.Path.{_≡_, refl, sym, _∙_}
 use Prim.Native.Nat.{_+_, _-_, _≤_}
 use native.Mathlib.Omega.{arith}
@@ -8,6 +7,8 @@ use lib.Seq.{sets}
 use Rattle.text.proofs.Written.{word-done, word-more}
 use Rattle.text.proofs.write.put_word.Statement.{statement}
 use Rattle.text.proofs.write.put_word.Tie as tie
+use Rattle.text.proofs.write.put_word.Reads as reads
+use Rattle.text.proofs.write.put_word.Lts as lts
 
 abbrev Inv-loop : tie.InvT-loop
 Inv-loop buf₀ at word i₀ j₀ buf i j =
