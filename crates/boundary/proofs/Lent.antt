@@ -2,14 +2,15 @@
 use mathlib.Core.Path.{_≡_, refl, sym, ap, _∙_}
 use mathlib.Core.Bool.{Bool, true, false, cond, not}
 use mathlib.Core.List.{List}
-use Prim.Native.Nat.{ℕ, _+_, _*_, _≤_, _<_}
+use Prim.Native.Nat.{ℕ, _+_, _*_, _%_, _≤_, _<_}
 use native.Mathlib.Omega.{arith}
-use lib.ListN.{length}
+use lib.ListN.{length, getD}
 use lib.Dec.{ltb, leb, eqb}
-use borrow.Author.Tests.{lt-ltb, le-ltb, leb-true, le-leb, lt-leb, eq-eqb, ne-eqb}
+use borrow.Author.Tests.{lt-ltb, le-ltb, ltb-true, leb-true, le-leb, lt-leb, eq-eqb, ne-eqb}
 use Rattle.points.specs.Plane.{legal}
 use Rattle.points.specs.declared.Point.{Point}
 use Rattle.points.specs.declared.Refusal.the-variants.{Size, State, BadPoint}
+use Rattle.masks.specs.Masks.{prunedIn}
 use Rattle.components.specs.Components.{Links, Forest, stateOk, rootOf}
 use Rattle.components.proofs.State.{and-true, state-of}
 use Rattle.cells.specs.Cells.{mostSide, sizedOf, placeOf, cellOf, Within}
@@ -17,7 +18,7 @@ use Rattle.cells.proofs.Cell.{area, places}
 use Rattle.tables.specs.Tables.{Tables, Sides, Room, newOf, editOf, rebuiltLinks}
 use Rattle.tables.proofs.Joins.{sides-of}
 use Rattle.questions.specs.Questions.{reachableOf, neighboursReachableOf, neighboursUnreachableOf}
-use Rattle.boundary.specs.Lent.{refusedAs, markOf, linksOk, coversOk, heldOf, roomyOf, groundOk, tables, Left, left, leftIn, marked, LeftLinks, leftLinks, withLinks, newLent, setLent, rebuildLent, updateLent, componentLent, askedOf, told, reachableLent, unreachableLent, nearLent, farLent}
+use Rattle.boundary.specs.Lent.{refusedAs, markOf, linksOk, coversOk, heldOf, roomyOf, groundOk, tables, Left, left, leftIn, marked, LeftLinks, leftLinks, withLinks, newLent, setLent, rebuildLent, updateLent, componentLent, locatedOf, after, maskLent, prunedLent, askedOf, told, reachableLent, unreachableLent, nearLent, farLent}
 
 -- ---- choices whose tests are known
 
@@ -70,6 +71,26 @@ module _ (w h : ℕ) (p k : List ℕ) where
         cells = area w h (s .wide) (s .high);
         forest = state-of (w * h) p k (leb-true (w * h) (length p) (b .0)) (leb-true (w * h) (length k) (c .0)) (c .1);
       }
+
+module _ (w h : ℕ) (b p k : List ℕ) where
+  pub ground-links : linksOk w h p k ≡ false → false ≡ groundOk w h b p k
+  unfolding groundOk
+  ground-links e = rw e
+
+  pub ground-cells : linksOk w h p k ≡ true → leb (w * h) (length b) ≡ groundOk w h b p k
+  unfolding groundOk
+  ground-cells e = rw e
+
+  -- what legal links with a table of cells have
+  pub record Ground : Type 0 where
+    pub linked : Linked w h p k
+    pub table : w * h ≤ length b
+
+  pub of-ground : groundOk w h b p k ≡ true → Ground
+  unfolding groundOk
+  of-ground e =
+      let a = and-true (linksOk w h p k) _ e in
+      record { linked = of-links w h p k (a .0); table = leb-true (w * h) (length b) (a .1) }
 
 module _ (n : ℕ) (b e f : List ℕ) where
   pub covers-blocked : length b < n → false ≡ coversOk n b e f
@@ -191,46 +212,21 @@ module _ (w h i x y : ℕ) (q qa : Point) (eq : qa ≡ q) (ei : i ≡ cellOf w h
 -- ---- rebuild and update
 
 module _ (w h : ℕ) (b p k : List ℕ) where
-  ground-links : linksOk w h p k ≡ false → groundOk w h b p k ≡ false
-  unfolding groundOk
-  ground-links e = rw e
+  pub rebuild-refused : (d : Bool) (n : ℕ) → groundOk w h b p k ≡ false → n ≡ refusedAs State → leftLinks n p k ≡ rebuildLent w h d b p k
+  unfolding rebuildLent
+  rebuild-refused d n e en = ap (λ (a : ℕ). leftLinks a p k) en ∙ passed (groundOk w h b p k) _ (leftLinks (refusedAs State) p k) e
 
-  ground-short : linksOk w h p k ≡ true → length b < w * h → groundOk w h b p k ≡ false
-  unfolding groundOk
-  ground-short e l = rw (e, lt-leb (w * h) (length b) l)
+  pub update-refused : (d m : Bool) (n : ℕ) → groundOk w h b p k ≡ false → n ≡ refusedAs State → leftLinks n p k ≡ updateLent w h d m b p k
+  unfolding updateLent
+  update-refused d m n e en = ap (λ (a : ℕ). leftLinks a p k) en ∙ passed (groundOk w h b p k) _ (leftLinks (refusedAs State) p k) e
 
-  ground-yes : linksOk w h p k ≡ true → w * h ≤ length b → groundOk w h b p k ≡ true
-  unfolding groundOk
-  ground-yes e l = rw (e, le-leb (w * h) (length b) l)
-
-  module _ (d : Bool) (n : ℕ) (en : n ≡ refusedAs State) where
-    rebuild-no : groundOk w h b p k ≡ false → leftLinks n p k ≡ rebuildLent w h d b p k
-    unfolding rebuildLent
-    rebuild-no e = ap (λ (a : ℕ). leftLinks a p k) en ∙ passed (groundOk w h b p k) _ (leftLinks (refusedAs State) p k) e
-
-    update-no : (m : Bool) → groundOk w h b p k ≡ false → leftLinks n p k ≡ updateLent w h d m b p k
-    unfolding updateLent
-    update-no m e = ap (λ (a : ℕ). leftLinks a p k) en ∙ passed (groundOk w h b p k) _ (leftLinks (refusedAs State) p k) e
-
-    pub rebuild-links : linksOk w h p k ≡ false → leftLinks n p k ≡ rebuildLent w h d b p k
-    rebuild-links e = rebuild-no (ground-links e)
-
-    pub rebuild-short : linksOk w h p k ≡ true → length b < w * h → leftLinks n p k ≡ rebuildLent w h d b p k
-    rebuild-short e l = rebuild-no (ground-short e l)
-
-    pub update-links : (m : Bool) → linksOk w h p k ≡ false → leftLinks n p k ≡ updateLent w h d m b p k
-    update-links m e = update-no m (ground-links e)
-
-    pub update-short : (m : Bool) → linksOk w h p k ≡ true → length b < w * h → leftLinks n p k ≡ updateLent w h d m b p k
-    update-short m e l = update-no m (ground-short e l)
-
-  module _ (da d : Bool) (ed : da ≡ d) (p′ k′ : List ℕ) (e : linksOk w h p k ≡ true) (l : w * h ≤ length b) where
+  module _ (da d : Bool) (ed : da ≡ d) (p′ k′ : List ℕ) (e : groundOk w h b p k ≡ true) where
     pub rebuild-done : _≡_ {A = Links} (record { parent = p′; rank = k′ }) (rebuiltLinks w h da b p k) → leftLinks 0 p′ k′ ≡ rebuildLent w h d b p k
     unfolding rebuildLent
     rebuild-done q =
         ap (withLinks 0) q
         ∙ ap (λ (a : Bool). withLinks 0 (rebuiltLinks w h a b p k)) ed
-        ∙ taken (groundOk w h b p k) (withLinks 0 (rebuiltLinks w h d b p k)) _ (ground-yes e l)
+        ∙ taken (groundOk w h b p k) (withLinks 0 (rebuiltLinks w h d b p k)) _ e
 
     pub update-done : (ma m : Bool) → ma ≡ m → _≡_ {A = Links} (record { parent = p′; rank = k′ }) (cond ma (rebuiltLinks w h da b p k) (record { parent = p; rank = k }))
         → leftLinks 0 p′ k′ ≡ updateLent w h d m b p k
@@ -239,7 +235,7 @@ module _ (w h : ℕ) (b p k : List ℕ) where
         ap (withLinks 0) q
         ∙ ap (λ (a : Bool). withLinks 0 (cond ma (rebuiltLinks w h a b p k) (record { parent = p; rank = k }))) ed
         ∙ ap (λ (a : Bool). withLinks 0 (cond a (rebuiltLinks w h d b p k) (record { parent = p; rank = k }))) em
-        ∙ taken (groundOk w h b p k) (withLinks 0 (cond m (rebuiltLinks w h d b p k) (record { parent = p; rank = k }))) _ (ground-yes e l)
+        ∙ taken (groundOk w h b p k) (withLinks 0 (cond m (rebuiltLinks w h d b p k) (record { parent = p; rank = k }))) _ e
 
 -- ---- questions
 
@@ -259,6 +255,67 @@ module _ (w h : ℕ) (p k : List ℕ) (q : Point) (n : ℕ) where
     pub component-done : i < w * h → n ≡ rootOf p i → n ≡ componentLent w h p k q
     unfolding componentLent
     component-done l en = en ∙ ap (rootOf p) here ∙ both (linksOk w h p k) (ltb (cellOf w h q) (w * h)) (rootOf p (cellOf w h q)) _ _ e (lt-ltb (cellOf w h q) (w * h) (rw (← here) l))
+
+after-no : (t a n : ℕ) → t ≡ a → (t ≡ 0 → ⊥) → t ≡ after a n
+after-no t a n e z = e ∙ passed (eqb a 0) n a (ne-eqb a 0 (λ y. z (e ∙ y)))
+
+after-yes : (a n m : ℕ) → a ≡ 0 → n ≡ m → n ≡ after a m
+after-yes a n m e q = q ∙ taken (eqb a 0) m a (eq-eqb a 0 e)
+
+module _ (w h : ℕ) (e p k : List ℕ) (q : Point) where
+  pub located-state : groundOk w h e p k ≡ false → refusedAs State ≡ locatedOf w h e p k q
+  unfolding locatedOf
+  located-state s = passed (groundOk w h e p k) _ (refusedAs State) s
+
+  module _ (s : groundOk w h e p k ≡ true) (i : ℕ) (ei : i ≡ cellOf w h q) where
+    pub located-point : w * h ≤ i → refusedAs (BadPoint q) ≡ locatedOf w h e p k q
+    unfolding locatedOf
+    located-point l = second (groundOk w h e p k) (ltb (cellOf w h q) (w * h)) 0 (refusedAs (BadPoint q)) _ s (le-ltb (cellOf w h q) (w * h) (rw (← ei) l))
+
+    pub located-done : i < w * h → 0 ≡ locatedOf w h e p k q
+    unfolding locatedOf
+    located-done l = both (groundOk w h e p k) (ltb (cellOf w h q) (w * h)) 0 _ _ s (lt-ltb (cellOf w h q) (w * h) (rw (← ei) l))
+
+  -- a cell of a lent grid
+  pub record Located : Type 0 where
+    pub ground : Ground w h e p k
+    pub inside : cellOf w h q < w * h
+
+  of-located : locatedOf w h e p k q ≡ 0 → Located
+  unfolding locatedOf
+  of-located z = go (groundOk w h e p k) (ltb (cellOf w h q) (w * h)) (of-ground w h e p k) (ltb-true (cellOf w h q) (w * h)) z
+    where
+      go : (s l : Bool) → (s ≡ true → Ground w h e p k) → (l ≡ true → cellOf w h q < w * h) → _≡_ {A = ℕ} (cond s (cond l 0 60129542144) 8589934592) 0 → Located
+      go true true g i z = record { ground = g refl; inside = i refl }
+      go true false g i z = let y : _≡_ {A = ℕ} 60129542144 0 = z in absurd (omega arith)
+      go false l g i z = let y : _≡_ {A = ℕ} 8589934592 0 = z in absurd (omega arith)
+
+  module _ (qa : Point) (t : ℕ) (eq : qa ≡ q) (et : t ≡ locatedOf w h e p k qa) where
+    at-cell : t ≡ locatedOf w h e p k q
+    at-cell = et ∙ ap (locatedOf w h e p k) eq
+
+    pub located-held : t ≡ 0 → Located
+    located-held z = of-located (sym at-cell ∙ z)
+
+    pub mask-refused : (t ≡ 0 → ⊥) → t ≡ maskLent w h e p k q
+    unfolding maskLent
+    mask-refused z = after-no t (locatedOf w h e p k q) (getD e (cellOf w h q) 0) at-cell z
+
+    pub pruned-refused : (d : Bool) (n : ℕ) → (t ≡ 0 → ⊥) → t ≡ prunedLent w h d e p k q n
+    unfolding prunedLent
+    pruned-refused d n z = after-no t (locatedOf w h e p k q) (prunedIn d (n % 8) (getD e (cellOf w h q) 0)) at-cell z
+
+    module _ (z : t ≡ 0) (i : ℕ) (ei : i ≡ cellOf w h qa) where
+      spot : i ≡ cellOf w h q
+      spot = ei ∙ ap (cellOf w h) eq
+
+      pub mask-done : getD e i 0 ≡ maskLent w h e p k q
+      unfolding maskLent
+      mask-done = after-yes (locatedOf w h e p k q) (getD e i 0) (getD e (cellOf w h q) 0) (sym at-cell ∙ z) (rw spot)
+
+      pub pruned-done : (da d : Bool) (n m : ℕ) → da ≡ d → m ≡ prunedIn da (n % 8) (getD e i 0) → m ≡ prunedLent w h d e p k q n
+      unfolding prunedLent
+      pruned-done da d n m ed em = after-yes (locatedOf w h e p k q) m (prunedIn d (n % 8) (getD e (cellOf w h q) 0)) (sym at-cell ∙ z) (em ∙ rw (ed, spot))
 
 module _ (w h : ℕ) (p k : List ℕ) (s g : Point) where
   pub asked-state : linksOk w h p k ≡ false → refusedAs State ≡ askedOf w h p k s g
@@ -286,10 +343,10 @@ module _ (w h : ℕ) (p k : List ℕ) (s g : Point) where
       go false x z = let y : _≡_ {A = ℕ} 8589934592 0 = z in absurd (omega arith)
 
 told-no : (t a : ℕ) (b : Bool) → t ≡ a → (t ≡ 0 → ⊥) → t ≡ told a b
-told-no t a b e z = e ∙ passed (eqb a 0) (markOf b) a (ne-eqb a 0 (λ y. z (e ∙ y)))
+told-no t a b e z = after-no t a (markOf b) e z
 
 told-yes : (a n : ℕ) (b c : Bool) → a ≡ 0 → c ≡ b → n ≡ markOf c → n ≡ told a b
-told-yes a n b c e ec en = en ∙ ap markOf ec ∙ taken (eqb a 0) (markOf b) a (eq-eqb a 0 e)
+told-yes a n b c e ec en = after-yes a n (markOf b) e (en ∙ ap markOf ec)
 
 module _ (w h : ℕ) (p k : List ℕ) (s g sa ga : Point) (t : ℕ) (es : sa ≡ s) (eg : ga ≡ g) (et : t ≡ askedOf w h p k sa ga) where
   seen : t ≡ askedOf w h p k s g

@@ -1,3 +1,5 @@
 mod Choice
 mod Lent
 mod Searches
+mod Checks
+mod Prints

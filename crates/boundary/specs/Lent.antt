@@ -1,14 +1,15 @@
 -- The calls on tables that the host lends: the tests before each, what it answers, and what it leaves in them. Assumes nothing: these are definitions.
 use mathlib.Core.Bool.{Bool, true, false, not, cond, _&&_}
 use mathlib.Core.List.{List}
-use Prim.Native.Nat.{ℕ, _+_, _*_}
+use Prim.Native.Nat.{ℕ, _+_, _*_, _%_}
 use lib.Dec.{ltb, leb, eqb}
-use lib.ListN.{length}
+use lib.ListN.{length, getD}
 use Rattle.points.specs.Plane.{legal}
 use Rattle.points.specs.Refusals.{toldOf}
 use Rattle.points.specs.declared.Point.{Point}
 use Rattle.points.specs.declared.Refusal.{Refusal}
 use Rattle.points.specs.declared.Refusal.the-variants.{Size, State, BadPoint}
+use Rattle.masks.specs.Masks.{prunedIn}
 use Rattle.components.specs.Components.{Links, stateOk, rootOf}
 use Rattle.cells.specs.Cells.{sizedOf, placeOf, cellOf}
 use Rattle.tables.specs.Tables.{Tables, newOf, editOf, rebuiltLinks}
@@ -28,6 +29,10 @@ markOf false = 0
 -- sides in range, a place for each cell in both tables, and a legal state
 unfoldable pub linksOk : ℕ → ℕ → List ℕ → List ℕ → Bool
 linksOk w h p k = sizedOf w h && (leb (w * h) (length p) && (leb (w * h) (length k) && stateOk (w * h) p k))
+
+-- the same, and a place for each cell in one more table: STATE of a call that reads or changes no other
+unfoldable pub groundOk : ℕ → ℕ → List ℕ → List ℕ → List ℕ → Bool
+groundOk w h b p k = linksOk w h p k && leb (w * h) (length b)
 
 -- a place for each of n cells
 unfoldable pub coversOk : ℕ → List ℕ → List ℕ → List ℕ → Bool
@@ -91,10 +96,6 @@ leftLinks a p k = record { answer = a; parent = p; rank = k }
 abbrev pub withLinks : ℕ → Links → LeftLinks
 withLinks a u = leftLinks a (u .parent) (u .rank)
 
--- STATE of blocked cells, parents and ranks
-unfoldable pub groundOk : ℕ → ℕ → List ℕ → List ℕ → List ℕ → Bool
-groundOk w h b p k = linksOk w h p k && leb (w * h) (length b)
-
 -- `generate_components`: STATE, then the rebuild; the mark is cleared
 unfoldable pub rebuildLent : ℕ → ℕ → Bool → List ℕ → List ℕ → List ℕ → LeftLinks
 rebuildLent w h diagonal b p k = cond (groundOk w h b p k) (withLinks 0 (rebuiltLinks w h diagonal b p k)) (leftLinks (refusedAs State) p k)
@@ -113,6 +114,21 @@ unfoldable pub componentLent : ℕ → ℕ → List ℕ → List ℕ → Point �
 componentLent w h p k q =
     cond (linksOk w h p k) (cond (ltb (cellOf w h q) (w * h)) (rootOf p (cellOf w h q)) (refusedAs (BadPoint q))) (refusedAs State)
 
+-- STATE, then POINT for a point that is no cell; else 0
+unfoldable pub locatedOf : ℕ → ℕ → List ℕ → List ℕ → List ℕ → Point → ℕ
+locatedOf w h e p k q = cond (groundOk w h e p k) (cond (ltb (cellOf w h q) (w * h)) 0 (refusedAs (BadPoint q))) (refusedAs State)
+
+-- a refusal, or the answer n
+abbrev pub after : ℕ → ℕ → ℕ
+after t n = cond (eqb t 0) n t
+
+-- the mask that a table holds of a cell, and the pruned mask for travel d, read modulo 8
+unfoldable pub maskLent : ℕ → ℕ → List ℕ → List ℕ → List ℕ → Point → ℕ
+maskLent w h e p k q = after (locatedOf w h e p k q) (getD e (cellOf w h q) 0)
+
+unfoldable pub prunedLent : ℕ → ℕ → Bool → List ℕ → List ℕ → List ℕ → Point → ℕ → ℕ
+prunedLent w h diagonal e p k q d = after (locatedOf w h e p k q) (prunedIn diagonal (d % 8) (getD e (cellOf w h q) 0))
+
 -- STATE, then POINT for coordinates out of range, with 256 more for the start and 512 more for the goal; else 0
 unfoldable pub askedOf : ℕ → ℕ → List ℕ → List ℕ → Point → Point → ℕ
 askedOf w h p k start goal =
@@ -122,7 +138,7 @@ askedOf w h p k start goal =
 
 -- a refusal, or yes and no
 abbrev pub told : ℕ → Bool → ℕ
-told t b = cond (eqb t 0) (markOf b) t
+told t b = after t (markOf b)
 
 unfoldable pub reachableLent : ℕ → ℕ → List ℕ → List ℕ → Point → Point → ℕ
 reachableLent w h p k start goal = told (askedOf w h p k start goal) (reachableOf (w * h) p (cellOf w h start) (cellOf w h goal))

@@ -1,3 +1,5 @@
 pub mod Packing
 pub mod Lent
 pub mod Searches
+pub mod Walks
+pub mod Texts

@@ -12,7 +12,7 @@ ghost use lib.ListN.{length};
 ghost use Rattle.finder.specs.Find.{ground, lengthsOf, answerOf, outAfter, singlePlan, severalPlan};
 ghost use Rattle.boundary.specs.Searches.{settingsOf, singleLent, severalLent, routeOf};
 ghost use Rattle.boundary.specs.Packing.{flagOf, pointOf, refusedWith, headingPacked, measurePacked};
-ghost use Rattle.boundary.specs.Lent.{refusedAs, markOf, linksOk, coversOk, heldOf, roomyOf, tables, left, leftLinks, newLent, setLent, rebuildLent, updateLent, componentLent, askedOf, reachableLent, unreachableLent, nearLent, farLent};
+ghost use Rattle.boundary.specs.Lent.{refusedAs, markOf, linksOk, groundOk, coversOk, heldOf, roomyOf, tables, left, leftLinks, newLent, setLent, rebuildLent, updateLent, componentLent, locatedOf, maskLent, prunedLent, askedOf, reachableLent, unreachableLent, nearLent, farLent};
 use costs::Measure;
 use costs::Settings;
 use finder::Answer;
@@ -21,6 +21,9 @@ use points::Heading;
 use points::Point;
 use points::Refusal;
 use points::Told;
+
+mod texts;
+mod walks;
 
 fn flag(b: u8) -> bool
     ensures { λ r. ⌜ r ≡ flagOf b ⌝ }
@@ -158,6 +161,16 @@ fn linked(parent: &[u16], rank: &[u8], w: usize, h: usize) -> bool
     components::state_ok(parent, rank, n)
 }
 
+// `linked`, and whether a table has a place for each cell.
+fn grounded(table: &[u8], parent: &[u16], rank: &[u8], w: usize, h: usize) -> bool
+    ensures { λ r. ⌜ r ≡ groundOk w h (now (table .entry)) (now (parent .entry)) (now (rank .entry)) ⌝ }
+{
+    if !linked(parent, rank, w, h) {
+        return false;
+    }
+    w * h <= table.len()
+}
+
 // Whether the tables of the cells have a place for each of n cells.
 fn covered(blocked: &[u8], neighbours: &[u8], forced: &[u8], n: usize) -> bool
     ensures { λ r. ⌜ r ≡ coversOk n (now (blocked .entry)) (now (neighbours .entry)) (now (forced .entry)) ⌝ }
@@ -291,10 +304,7 @@ pub extern "C" fn barnsling_rebuild(
 ) -> u64
     ensures { λ r. ⌜ leftLinks r (now (parent .exit)) (now (rank .exit)) ≡ rebuildLent w h (flagOf diagonal) (now (blocked .entry)) (now (parent .entry)) (now (rank .entry)) ⌝ }
 {
-    if !linked(parent, rank, w, h) {
-        return refused_as(Refusal::State);
-    }
-    if blocked.len() < w * h {
+    if !grounded(blocked, parent, rank, w, h) {
         return refused_as(Refusal::State);
     }
     tables::rebuild(w, h, flag(diagonal), blocked, parent, rank);
@@ -314,10 +324,7 @@ pub extern "C" fn barnsling_update(
 ) -> u64
     ensures { λ r. ⌜ leftLinks r (now (parent .exit)) (now (rank .exit)) ≡ updateLent w h (flagOf diagonal) (flagOf dirty) (now (blocked .entry)) (now (parent .entry)) (now (rank .entry)) ⌝ }
 {
-    if !linked(parent, rank, w, h) {
-        return refused_as(Refusal::State);
-    }
-    if blocked.len() < w * h {
+    if !grounded(blocked, parent, rank, w, h) {
         return refused_as(Refusal::State);
     }
     tables::update(w, h, flag(diagonal), flag(dirty), blocked, parent, rank);
@@ -345,6 +352,89 @@ pub extern "C" fn barnsling_component(
         return refused_as(Refusal::BadPoint(p));
     }
     components::find(parent, rank, w * h, i) as u64
+}
+
+// STATE, also of a table that is too short, then POINT for a point that is no cell; else 0.
+fn located(table: &[u8], parent: &[u16], rank: &[u8], w: usize, h: usize, p: Point) -> u64
+    ensures { λ r. ⌜ r ≡ locatedOf w h (now (table .entry)) (now (parent .entry)) (now (rank .entry)) p ⌝ }
+{
+    if !grounded(table, parent, rank, w, h) {
+        return refused_as(Refusal::State);
+    }
+    let i = cells::cell_of(w, h, p);
+    if w * h <= i {
+        return refused_as(Refusal::BadPoint(p));
+    }
+    0
+}
+
+// What a table holds of a cell. Refuses STATE, then POINT.
+fn mask_at(table: &[u8], parent: &[u16], rank: &[u8], w: usize, h: usize, p: Point) -> u64
+    ensures { λ r. ⌜ r ≡ maskLent w h (now (table .entry)) (now (parent .entry)) (now (rank .entry)) p ⌝ }
+{
+    let t = located(table, parent, rank, w, h, p);
+    if t != 0 {
+        return t;
+    }
+    let i = cells::cell_of(w, h, p);
+    table[i] as u64
+}
+
+// Which neighbours of the cell (x, y) are inside and free, a bit for each direction: below 256. Refuses STATE, then POINT.
+#[no_mangle]
+pub extern "C" fn barnsling_neighbours_at(
+    neighbours: &[u8],
+    parent: &[u16],
+    rank: &[u8],
+    w: usize,
+    h: usize,
+    x: i32,
+    y: i32,
+) -> u64
+    ensures { λ r. ⌜ r ≡ maskLent w h (now (neighbours .entry)) (now (parent .entry)) (now (rank .entry)) (pointOf x y) ⌝ }
+{
+    mask_at(neighbours, parent, rank, w, h, point(x, y))
+}
+
+// The forced directions of the cell (x, y): below 256. Refuses STATE, then POINT.
+#[no_mangle]
+pub extern "C" fn barnsling_forced_at(
+    forced: &[u8],
+    parent: &[u16],
+    rank: &[u8],
+    w: usize,
+    h: usize,
+    x: i32,
+    y: i32,
+) -> u64
+    ensures { λ r. ⌜ r ≡ maskLent w h (now (forced .entry)) (now (parent .entry)) (now (rank .entry)) (pointOf x y) ⌝ }
+{
+    mask_at(forced, parent, rank, w, h, point(x, y))
+}
+
+// The directions that a search follows from the cell (x, y), having come to it in a direction, read modulo 8: below 256.
+// Refuses STATE, then POINT.
+#[no_mangle]
+pub extern "C" fn barnsling_pruned_at(
+    neighbours: &[u8],
+    parent: &[u16],
+    rank: &[u8],
+    w: usize,
+    h: usize,
+    diagonal: u8,
+    x: i32,
+    y: i32,
+    direction: u8,
+) -> u64
+    ensures { λ r. ⌜ r ≡ prunedLent w h (flagOf diagonal) (now (neighbours .entry)) (now (parent .entry)) (now (rank .entry)) (pointOf x y) direction ⌝ }
+{
+    let p = point(x, y);
+    let t = located(neighbours, parent, rank, w, h, p);
+    if t != 0 {
+        return t;
+    }
+    let m = neighbours[cells::cell_of(w, h, p)];
+    masks::pruned_mask(flag(diagonal), direction, m) as u64
 }
 
 // STATE, then POINT for coordinates out of range, the start's first; else 0.

@@ -73,14 +73,18 @@ pub place-high : (z : ℤ) (side : ℕ) → ltZ z (pos 0) ≡ false → side ≤
 place-high (pos n) side e l = rw (le-ltb n side l)
 place-high (negsuc n) side e l = absurd (true≢false e)
 
+and-false : (a : Bool) → (a && false) ≡ false
+and-false true = refl
+and-false false = refl
+
 module _ (w h : ℕ) (p : Point) (x y : ℕ) (ex : x ≡ placeOf (p .x) w) (ey : y ≡ placeOf (p .y) h) where
   pub of-across : w ≤ x → w * h ≡ cellOf w h p
   unfolding cellOf
   of-across a = rw (← ex, ← ey, le-ltb x w a)
 
-  pub of-along : x < w → h ≤ y → w * h ≡ cellOf w h p
+  pub of-down : h ≤ y → w * h ≡ cellOf w h p
   unfolding cellOf
-  of-along a b = rw (← ex, ← ey, lt-ltb x w a, le-ltb y h b)
+  of-down b = rw (← ex, ← ey, le-ltb y h b, and-false (ltb x w))
 
   pub of-inside : x < w → y < h → y * w + x ≡ cellOf w h p
   unfolding cellOf

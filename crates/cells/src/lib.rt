@@ -48,15 +48,23 @@ pub fn cell_of(w: usize, h: usize, p: Point) -> usize
     requires { ⌜ (w ≤ mostSide) × (h ≤ mostSide) ⌝ }
     ensures { λ r. ⌜ r ≡ cellOf w h p ⌝ }
 {
-    let x = place(p.x, w);
-    let y = place(p.y, h);
-    if w <= x {
+    let x = p.x;
+    if x < 0 {
         return w * h;
     }
-    if h <= y {
+    let across = x as usize;
+    if w <= across {
         return w * h;
     }
-    y * w + x
+    let y = p.y;
+    if y < 0 {
+        return w * h;
+    }
+    let down = y as usize;
+    if h <= down {
+        return w * h;
+    }
+    down * w + across
 }
 
 // The mask with its bit d set or cleared.

@@ -15,14 +15,14 @@ const MOST_POPS: usize = 65535;
 
 const MOST_FRINGE: usize = 8192;
 
-// How a search is run: the heuristic's factor, the two flags and the three limits.
+// How a search is run: the heuristic's factor, the two flags and the three limits. The widest come first, the flags last: then no copy splits them.
 pub struct Settings {
-    pub factor: f32,
-    pub diagonal: bool,
-    pub improved: bool,
     pub depth: usize,
     pub pops: usize,
     pub fringe: usize,
+    pub factor: f32,
+    pub diagonal: bool,
+    pub improved: bool,
 }
 
 // A distance, or a refusal.

@@ -2,6 +2,7 @@
 use goals::Plan;
 use jumps::Cell;
 use jumps::Jump;
+use offers::Fate;
 use offers::Mark;
 use offers::Step;
 use points::Heading;
@@ -112,10 +113,13 @@ fn expand(
 {
     let here = jumps::spot(node.x, node.y);
     let Heading::Toward(travel) = points::direction_between(above, here) else {
-        return Step::Refused(Refusal::Same(above));
+        return Step {
+            mark: m,
+            fate: Fate::Refused(Refusal::Same(above)),
+        };
     };
     let around = jumps::byte(neighbours, p.w, node.x, node.y);
-    let mask = masks::pruned_mask(p.settings.diagonal, travel.number, around);
+    let mask = masks::pruned_now(p.settings.diagonal, travel.number, around);
     let price = jumps::price_of(travel.number);
     let mut n = m;
     let mut e = next_of(mask, 0);
@@ -141,13 +145,28 @@ fn expand(
             price,
             depth,
         );
-        let Step::Done(next) = r else {
-            return r;
-        };
-        n = next;
+        let fate = r.fate;
+        match fate {
+            Fate::Refused(w) => {
+                return Step {
+                    mark: n,
+                    fate: Fate::Refused(w),
+                };
+            }
+            Fate::Done => {
+                let mark = r.mark;
+                n = Mark {
+                    count: mark.count,
+                    heap: mark.heap,
+                };
+            }
+        }
         e = next_of(mask, e + 1);
     }
-    Step::Done(n)
+    Step {
+        mark: n,
+        fate: Fate::Done,
+    }
 }
 
 // Follows direction e: what the jump finds is expanded again or offered. Refuses DEPTH.
@@ -176,11 +195,17 @@ fn follow(
     ensures { λ r. ⌜ outOf r (now (number .exit)) (now (place .exit)) (now (parent .exit)) (now (cost .exit)) (now (keys .exit)) (now (idx .exit)) ≡ reached (tables (now (blocked .entry)) (now (neighbours .entry)) (now (forced .entry)) (now (goals .entry))) p from (deeperAt (tables (now (blocked .entry)) (now (neighbours .entry)) (now (forced .entry)) (now (goals .entry))) p from depth above) base e (view (now (number .entry)) (now (place .entry)) (now (parent .entry)) (now (cost .entry)) (now (keys .entry)) (now (idx .entry)) m) (jumpOf (now (blocked .entry)) (now (forced .entry)) (now (goals .entry)) p e node price) ⌝ }
 {
     let Jump::At(c, k) = jumps::jump_along(blocked, forced, goals, p, e, node, price) else {
-        return Step::Done(m);
+        return Step {
+            mark: m,
+            fate: Fate::Done,
+        };
     };
     if again(forced, goals, p, e, c) {
         if depth == 0 {
-            return Step::Refused(Refusal::Depth);
+            return Step {
+                mark: m,
+                fate: Fate::Refused(Refusal::Depth),
+            };
         }
         return expand(
             blocked,

@@ -1,5 +1,6 @@
 // The start's expansion: its free neighbours. The start may be outside the grid.
 use goals::Plan;
+use offers::Fate;
 use offers::Mark;
 use offers::Step;
 use points::Direction;
@@ -86,7 +87,10 @@ fn toward(
     ensures { λ r. ⌜ outOf r (now (number .exit)) (now (place .exit)) (now (parent .exit)) (now (cost .exit)) (now (keys .exit)) (now (idx .exit)) ≡ towardOf (now (blocked .entry)) (now (goals .entry)) p from k d (view (now (number .entry)) (now (place .entry)) (now (parent .entry)) (now (cost .entry)) (now (keys .entry)) (now (idx .entry)) m) ⌝ }
 {
     let Neighbour::At(cell) = neighbour_at(blocked, p, d) else {
-        return Step::Done(m);
+        return Step {
+            mark: m,
+            fate: Fate::Done,
+        };
     };
     let price = jumps::price_of(d);
     offers::offer(
@@ -140,10 +144,25 @@ pub fn spread(
             k,
             d,
         );
-        let Step::Done(next) = r else {
-            return r;
-        };
-        n = next;
+        let fate = r.fate;
+        match fate {
+            Fate::Refused(w) => {
+                return Step {
+                    mark: n,
+                    fate: Fate::Refused(w),
+                };
+            }
+            Fate::Done => {
+                let mark = r.mark;
+                n = Mark {
+                    count: mark.count,
+                    heap: mark.heap,
+                };
+            }
+        }
     }
-    Step::Done(n)
+    Step {
+        mark: n,
+        fate: Fate::Done,
+    }
 }

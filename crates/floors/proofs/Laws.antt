@@ -28,7 +28,7 @@ use Rattle.maps.proofs.Laws.{HBounded, head-fair, side-most}
 use Rattle.paths.specs.Walks.{firstBad, clearOf}
 use Rattle.paths.specs.declared.Bad.{Bad as BadPoints}
 use Rattle.paths.specs.declared.Bad.the-variants.{At, Nowhere}
-use Rattle.floors.specs.Floors.{readAs, readOf, judged, checkOf}
+use Rattle.floors.specs.Floors.{readAs, readOf, judged, checkIn, checkOf}
 
 -- ---- a map that was read
 same : (a b : Header) → Map a ≡ Map b → a ≡ b
@@ -68,31 +68,35 @@ unfolding newOutcome sizedOf
 new-one = refl
 
 -- ---- the route check: STATE, LIST, POINT
+module _ (w h : ℕ) (blocked : List ℕ) (l : List ℤ) where
+  pub check-empty : length l ≡ 0 → Refused ListBroken ≡ checkIn w h blocked l
+  unfolding checkIn
+  check-empty e = rw (eq-eqb (length l) 0 e)
+
+  module _ (some : length l ≡ 0 → ⊥) where
+    pub check-odd : length l % 2 ≡ 1 → Refused ListBroken ≡ checkIn w h blocked l
+    unfolding checkIn
+    check-odd e = rw (ne-eqb (length l) 0 some, eq-eqb (length l % 2) 1 e)
+
+    module _ (even : length l % 2 ≡ 1 → ⊥) where
+      whole : checkIn w h blocked l ≡ judged (firstBad l) (clearOf w h blocked l)
+      unfolding checkIn
+      whole = rw (ne-eqb (length l) 0 some, ne-eqb (length l % 2) 1 even)
+
+      pub check-point : (p : Point) → firstBad l ≡ At p → Refused (BadPoint p) ≡ checkIn w h blocked l
+      check-point p e = sym (whole ∙ ap (λ (b : BadPoints). judged b (clearOf w h blocked l)) e)
+
+      pub check-clear : (t : Bool) → firstBad l ≡ Nowhere → t ≡ clearOf w h blocked l → cond t Yes No ≡ checkIn w h blocked l
+      check-clear t e f = sym (whole ∙ ap (λ (b : BadPoints). judged b (clearOf w h blocked l)) e ∙ ap (λ (b : Bool). cond b Yes No) (sym f))
+
 module _ (g : Grid) (l : List ℤ) where
   pub check-state : legalOf g ≡ false → Refused State ≡ checkOf g l
   unfolding checkOf
   check-state e = rw e
 
-  module _ (ok : legalOf g ≡ true) where
-    pub check-empty : length l ≡ 0 → Refused ListBroken ≡ checkOf g l
-    unfolding checkOf
-    check-empty e = rw (ok, eq-eqb (length l) 0 e)
-
-    module _ (some : length l ≡ 0 → ⊥) where
-      pub check-odd : length l % 2 ≡ 1 → Refused ListBroken ≡ checkOf g l
-      unfolding checkOf
-      check-odd e = rw (ok, ne-eqb (length l) 0 some, eq-eqb (length l % 2) 1 e)
-
-      module _ (even : length l % 2 ≡ 1 → ⊥) where
-        whole : checkOf g l ≡ judged (firstBad l) (clearOf (g .width) (g .height) (g .blocked) l)
-        unfolding checkOf
-        whole = rw (ok, ne-eqb (length l) 0 some, ne-eqb (length l % 2) 1 even)
-
-        pub check-point : (p : Point) → firstBad l ≡ At p → Refused (BadPoint p) ≡ checkOf g l
-        check-point p e = sym (whole ∙ ap (λ (b : BadPoints). judged b (clearOf (g .width) (g .height) (g .blocked) l)) e)
-
-        pub check-clear : (t : Bool) → firstBad l ≡ Nowhere → t ≡ clearOf (g .width) (g .height) (g .blocked) l → cond t Yes No ≡ checkOf g l
-        check-clear t e f = sym (whole ∙ ap (λ (b : BadPoints). judged b (clearOf (g .width) (g .height) (g .blocked) l)) e ∙ ap (λ (b : Bool). cond b Yes No) (sym f))
+  pub check-held : legalOf g ≡ true → checkIn (g .width) (g .height) (g .blocked) l ≡ checkOf g l
+  unfolding checkOf
+  check-held e = rw e
 
 -- ---- the whole reading
 pub read-is : (t : List ℕ) (r : Reading) → mapOf t ≡ r → readAs (cellsInto t zeros) r ≡ readOf t

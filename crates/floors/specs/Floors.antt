@@ -61,14 +61,16 @@ abbrev pub judged : BadPoints → Bool → Verdict
 judged (At p) clear = Refused (BadPoint p)
 judged Nowhere clear = cond clear Yes No
 
+-- LIST, POINT, over the cells of a grid
+unfoldable pub checkIn : ℕ → ℕ → List ℕ → List ℤ → Verdict
+checkIn w h blocked l =
+    cond (eqb (length l) 0) (Refused ListBroken)
+    (cond (eqb (length l % 2) 1) (Refused ListBroken)
+    (judged (firstBad l) (clearOf w h blocked l)))
+
 -- STATE, LIST, POINT
 unfoldable pub checkOf : Grid → List ℤ → Verdict
-checkOf g l =
-    cond (legalOf g)
-    (cond (eqb (length l) 0) (Refused ListBroken)
-    (cond (eqb (length l % 2) 1) (Refused ListBroken)
-    (judged (firstBad l) (clearOf (g .width) (g .height) (g .blocked) l))))
-    (Refused State)
+checkOf g l = cond (legalOf g) (checkIn (g .width) (g .height) (g .blocked) l) (Refused State)
 
 -- the text of a grid's cells, with an order to route
 abbrev pub headerOf : Grid → Bool → Point → Point → Header

@@ -1,8 +1,10 @@
 // Map texts as grids by value, and the route check on a grid by value.
 ghost use mathlib.Core.Path.{_≡_};
+ghost use Prim.Native.Nat.{_*_, _≤_};
 ghost use lib.ListN.{length};
+ghost use Rattle.cells.specs.Cells.{mostSide};
 ghost use Rattle.tables.specs.Tables.{Sides};
-ghost use Rattle.floors.specs.Floors.{floorGrid, refusedMap, readOf, checkOf, shownOf, putOf, putInto};
+ghost use Rattle.floors.specs.Floors.{floorGrid, refusedMap, readOf, checkIn, checkOf, shownOf, putOf, putInto};
 use grid::Grid;
 use grid::Outcome;
 use grid::Verdict;
@@ -93,13 +95,11 @@ pub fn read_map(text: &[u8]) -> MapRead
     }
 }
 
-// Whether every waypoint after the first is inside and free. Refuses STATE, LIST, POINT.
-pub fn check_route(g: Grid, list: &[i32]) -> Verdict
-    ensures { λ r. ⌜ r ≡ checkOf g (now (list .entry)) ⌝ }
+// Whether every waypoint after the first is inside and free, on cells whose sides are known. Refuses LIST, POINT.
+pub fn check_list(blocked: &[u8], w: usize, h: usize, list: &[i32]) -> Verdict
+    requires { ⌜ (w ≤ mostSide) × (h ≤ mostSide) × (w * h ≤ length (now blocked)) ⌝ }
+    ensures { λ r. ⌜ r ≡ checkIn w h (now (blocked .entry)) (now (list .entry)) ⌝ }
 {
-    if !grid::legal(g) {
-        return Verdict::Refused(Refusal::State);
-    }
     if list.len() == 0 {
         return Verdict::Refused(Refusal::List);
     }
@@ -110,13 +110,21 @@ pub fn check_route(g: Grid, list: &[i32]) -> Verdict
     if let Bad::At(p) = bad {
         return Verdict::Refused(Refusal::BadPoint(p));
     }
-    let w = g.width;
-    let h = g.height;
-    let blocked = g.blocked;
-    if paths::clear(&blocked, w, h, list) {
+    if paths::clear(blocked, w, h, list) {
         return Verdict::Yes;
     }
     Verdict::No
+}
+
+// The route check on a grid. Refuses STATE, LIST, POINT.
+pub fn check_route(g: Grid, list: &[i32]) -> Verdict
+    ensures { λ r. ⌜ r ≡ checkOf g (now (list .entry)) ⌝ }
+{
+    if !grid::legal(g) {
+        return Verdict::Refused(Refusal::State);
+    }
+    let blocked = g.blocked;
+    check_list(&blocked, g.width, g.height, list)
 }
 
 // Writes a grid's cells with an order to route as a map text; the rest of the room is kept.

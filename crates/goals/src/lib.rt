@@ -19,13 +19,13 @@ pub enum Goal {
     Several(usize),
 }
 
-// What stays the same in one search: the sides, the settings, the goal and the start.
+// What stays the same in one search: the goal, the start, the sides and the settings.
 pub struct Plan {
+    pub goal: Goal,
+    pub start: Point,
     pub w: usize,
     pub h: usize,
     pub settings: Settings,
-    pub goal: Goal,
-    pub start: Point,
 }
 
 // How many goals a list holds, or GOALS.

@@ -1,9 +1,9 @@
 -- The cells of a grid and the jumps over them. A cell's x and y are one more than its column and row, so that a step off the grid is still a number.
 -- Assumes nothing: these are definitions.
 use mathlib.Core.Path.{_≡_}
-use mathlib.Core.Bool.{Bool, true, false, not}
+use mathlib.Core.Bool.{Bool, true, false, not, cond}
 use mathlib.Core.List.{List}
-use Prim.Native.Nat.{ℕ, zero, suc, _+_, _-_, _*_, _%_, _≤_, _<_}
+use Prim.Native.Nat.{ℕ, zero, suc, _+_, _-_, _*_, _%_, _≤_, _<_, min}
 use lib.Dec.{eqb, leb}
 use lib.IntN.{ℤ, pos}
 use lib.ListN.{length, getD}
@@ -11,7 +11,10 @@ use Rattle.points.specs.Compass.{offX, offY}
 use Rattle.points.specs.declared.Point.{Point}
 use Rattle.masks.specs.Masks.{hasBit}
 use Rattle.goals.specs.declared.Plan.{Plan}
-use Rattle.goals.specs.Goals.{mostSide, both, either, goalAt, Aimed}
+use Rattle.goals.specs.declared.Goal.{Goal}
+use Rattle.goals.specs.declared.Goal.the-variants.{Exact, Near, Several}
+use Rattle.goals.specs.Goals.{mostSide, both, either, pointOf, goalAt, Aimed}
+use Rattle.cells.specs.Cells.{cellOf}
 use Rattle.jumps.specs.declared.Cell.{Cell}
 use Rattle.jumps.specs.declared.Jump.{Jump}
 use Rattle.jumps.specs.declared.Jump.the-variants.{At, Nothing}
@@ -72,6 +75,29 @@ freeAt blocked w h x y = both (within w h x y) (eqb (byteAt blocked w x y) 0)
 -- a goal or forced cell
 unfoldable pub stopsAt : List ℕ → List ℤ → Plan → ℕ → ℕ → ℕ → Bool
 stopsAt forced goals p d x y = either (goalAt goals p (spotOf x y)) (hasBit (byteAt forced (p .w) x y) (d % 8))
+
+-- the same by a cell's number
+unfoldable pub stopsIn : List ℕ → List ℤ → Plan → ℕ → ℕ → Bool
+stopsIn forced goals p d i = either (goalAt goals p (pointOf (p .w) i)) (hasBit (getD forced i 0) (d % 8))
+
+-- the number of the one cell that is the goal, w * h where that one is outside; one more where the goal is not one point
+abbrev pub targetIn : ℕ → ℕ → Goal → ℕ
+targetIn w h (Exact q) = cellOf w h q
+targetIn w h (Near q) = w * h + 1
+targetIn w h (Several n) = w * h + 1
+
+abbrev pub targetOf : Plan → ℕ
+targetOf p = targetIn (p .w) (p .h) (p .goal)
+
+-- how many cells of a side lie ahead of a place, by an offset that is not 1
+abbrev pub aheadOf : ℕ → ℕ → ℕ → ℕ
+aheadOf zero side at = at - 1
+aheadOf (suc o) side at = side - at
+
+-- how many cells lie inside in the direction of an offset
+unfoldable pub reachOf : ℕ → ℕ → ℕ → ℕ → ℕ → ℕ → ℕ
+reachOf ox oy w h x y =
+    cond (eqb ox 1) (aheadOf oy h y) (cond (eqb oy 1) (aheadOf ox w x) (min (aheadOf ox w x) (aheadOf oy h y)))
 
 -- what one step finds: nothing where the cell is not free, the cell where it stops, or what lies beyond
 abbrev pub found : Bool → Bool → Jump → Jump → Jump

@@ -1,11 +1,12 @@
 // Jumps over the cells of a grid. A cell's x and y are one more than its column and row, so that a step off the grid is still a number.
+use goals::Goal;
 use goals::Plan;
 use points::Point;
 ghost use mathlib.Core.Path.{_≡_};
 ghost use mathlib.Core.Bool.{not};
-ghost use Prim.Native.Nat.{_+_, _%_, _<_, _≤_};
-ghost use Rattle.goals.specs.Goals.{mostSide, both, either, Aimed};
-ghost use Rattle.jumps.specs.Floor.{Sized, Within, Inside, Placed, Held, Floor, spotOf, numberOf, byteAt, freeAt, stopsAt, seesOn, seesEither, turnsAt, haltsAt, priceOf, jumpOf};
+ghost use Prim.Native.Nat.{_+_, _*_, _%_, _<_, _≤_};
+ghost use Rattle.goals.specs.Goals.{mostSide, both, either, pointOf, goalAt, Aimed};
+ghost use Rattle.jumps.specs.Floor.{Sized, Within, Inside, Placed, Held, Floor, spotOf, numberOf, byteAt, freeAt, stopsAt, stopsIn, targetOf, aheadOf, reachOf, seesOn, seesEither, turnsAt, haltsAt, priceOf, jumpOf};
 
 pub struct Cell {
     pub x: usize,
@@ -84,27 +85,106 @@ pub fn stops(forced: &[u8], goals: &[i32], p: Plan, d: u8, x: usize, y: usize) -
     masks::bit(byte(forced, p.w, x, y), d)
 }
 
-// Whether a straight jump from an inside cell finds something.
-fn sees_on(blocked: &[u8], forced: &[u8], goals: &[i32], p: Plan, d: u8, x: usize, y: usize) -> bool
-    requires { ⌜ Floor (now blocked) (now forced) (now goals) p × Within (p .w) (p .h) x y ⌝ }
-    ensures { λ r. ⌜ r ≡ seesOn (now (blocked .entry)) (now (forced .entry)) (now (goals .entry)) p d x y ⌝ }
+// The number of the one cell that is the goal, w * h where that one is outside; one more where the goal is not one point.
+fn goal_cell(p: Plan) -> usize
+    requires { ⌜ (p .w ≤ mostSide) × (p .h ≤ mostSide) ⌝ }
+    ensures { λ r. ⌜ r ≡ targetOf p ⌝ }
 {
     let w = p.w;
     let h = p.h;
+    let goal = p.goal;
+    match goal {
+        Goal::Exact(q) => cells::cell_of(w, h, q),
+        Goal::Near(_) => w * h + 1,
+        Goal::Several(_) => w * h + 1,
+    }
+}
+
+// Whether the cell of a number is a goal. The target is that of the plan: one exact goal is known by its number.
+fn hits(goals: &[i32], p: Plan, target: usize, i: usize) -> bool
+    requires { ⌜ (p .w ≤ mostSide) × ((p .h ≤ mostSide) × (Aimed (now goals) p × ((target ≡ targetOf p) × (i < p .h * p .w)))) ⌝ }
+    ensures { λ r. ⌜ r ≡ goalAt (now (goals .entry)) p (pointOf (p .w) i) ⌝ }
+{
+    let w = p.w;
+    let h = p.h;
+    if w * h < target {
+        return goals::is_goal(goals, p, goals::point_of(w, i));
+    }
+    i == target
+}
+
+// Whether it is a goal or forced for direction d.
+fn stops_in(forced: &[u8], goals: &[i32], p: Plan, target: usize, d: u8, i: usize) -> bool
+    requires { ⌜ Sized (now forced) (p .w) (p .h) × (Aimed (now goals) p × ((target ≡ targetOf p) × (i < p .h * p .w))) ⌝ }
+    ensures { λ r. ⌜ r ≡ stopsIn (now (forced .entry)) (now (goals .entry)) p d i ⌝ }
+{
+    if hits(goals, p, target, i) {
+        return true;
+    }
+    masks::bit(forced[i], d)
+}
+
+// How many cells of a side lie ahead of a place.
+fn ahead(o: usize, side: usize, at: usize) -> usize
+    requires { ⌜ (1 ≤ at) × (at ≤ side) ⌝ }
+    ensures { λ r. ⌜ r ≡ aheadOf o side at ⌝ }
+{
+    if o == 0 {
+        return at - 1;
+    }
+    side - at
+}
+
+// How many cells lie inside in the direction of an offset.
+fn reach(ox: usize, oy: usize, w: usize, h: usize, x: usize, y: usize) -> usize
+    requires { ⌜ Within w h x y ⌝ }
+    ensures { λ r. ⌜ r ≡ reachOf ox oy w h x y ⌝ }
+{
+    if ox == 1 {
+        return ahead(oy, h, y);
+    }
+    let across = ahead(ox, w, x);
+    if oy == 1 {
+        return across;
+    }
+    let down = ahead(oy, h, y);
+    if across < down {
+        return across;
+    }
+    down
+}
+
+// Whether a straight jump from an inside cell finds something. It steps by cell numbers: as many as lie ahead.
+fn sees_on(
+    blocked: &[u8],
+    forced: &[u8],
+    goals: &[i32],
+    p: Plan,
+    target: usize,
+    d: u8,
+    x: usize,
+    y: usize,
+) -> bool
+    requires { ⌜ Floor (now blocked) (now forced) (now goals) p × (Within (p .w) (p .h) x y × (target ≡ targetOf p)) ⌝ }
+    ensures { λ r. ⌜ r ≡ seesOn (now (blocked .entry)) (now (forced .entry)) (now (goals .entry)) p d x y ⌝ }
+{
+    let w = p.w;
     let ox = points::off_x(d);
     let oy = points::off_y(d);
-    let mut cx = x;
-    let mut cy = y;
-    loop {
-        cx = cx + ox - 1;
-        cy = cy + oy - 1;
-        if !is_free(blocked, w, h, cx, cy) {
+    let step = oy * w + ox;
+    let mut left = reach(ox, oy, w, p.h, x, y);
+    let mut i = number(w, x, y);
+    while 0 < left {
+        i = i + step - (w + 1);
+        if blocked[i] != 0 {
             return false;
         }
-        if stops(forced, goals, p, d, cx, cy) {
+        if stops_in(forced, goals, p, target, d, i) {
             return true;
         }
+        left -= 1;
     }
+    false
 }
 
 fn sees_either(
@@ -112,18 +192,19 @@ fn sees_either(
     forced: &[u8],
     goals: &[i32],
     p: Plan,
+    target: usize,
     d: u8,
     e: u8,
     x: usize,
     y: usize,
 ) -> bool
-    requires { ⌜ Floor (now blocked) (now forced) (now goals) p × Within (p .w) (p .h) x y ⌝ }
+    requires { ⌜ Floor (now blocked) (now forced) (now goals) p × (Within (p .w) (p .h) x y × (target ≡ targetOf p)) ⌝ }
     ensures { λ r. ⌜ r ≡ seesEither (now (blocked .entry)) (now (forced .entry)) (now (goals .entry)) p d e x y ⌝ }
 {
-    if sees_on(blocked, forced, goals, p, d, x, y) {
+    if sees_on(blocked, forced, goals, p, target, d, x, y) {
         return true;
     }
-    sees_on(blocked, forced, goals, p, e, x, y)
+    sees_on(blocked, forced, goals, p, target, e, x, y)
 }
 
 // Whether a straight jump to a side finds something: along x or y where d is diagonal, and, diagonals off, a perpendicular one.
@@ -133,11 +214,12 @@ fn sees_aside(
     forced: &[u8],
     goals: &[i32],
     p: Plan,
+    target: usize,
     d: u8,
     x: usize,
     y: usize,
 ) -> bool
-    requires { ⌜ Floor (now blocked) (now forced) (now goals) p × ((d < 8) × Within (p .w) (p .h) x y) ⌝ }
+    requires { ⌜ Floor (now blocked) (now forced) (now goals) p × ((d < 8) × (Within (p .w) (p .h) x y × (target ≡ targetOf p))) ⌝ }
     ensures { λ r. ⌜ r ≡ either (turnsAt (now (blocked .entry)) (now (forced .entry)) (now (goals .entry)) p d x y) (both (not (p .settings .diagonal)) (seesEither (now (blocked .entry)) (now (forced .entry)) (now (goals .entry)) p ((d + 2) % 8) ((d + 6) % 8) x y)) ⌝ }
 {
     let last = 1 + (!p.settings.diagonal) as u8;
@@ -148,6 +230,7 @@ fn sees_aside(
             forced,
             goals,
             p,
+            target,
             (d + turn) % 8,
             (d + 8 - turn) % 8,
             x,
@@ -161,14 +244,23 @@ fn sees_aside(
 }
 
 // Whether a jump in direction d stops at an inside cell.
-fn halts(blocked: &[u8], forced: &[u8], goals: &[i32], p: Plan, d: u8, x: usize, y: usize) -> bool
-    requires { ⌜ Floor (now blocked) (now forced) (now goals) p × ((d < 8) × Within (p .w) (p .h) x y) ⌝ }
+fn halts(
+    blocked: &[u8],
+    forced: &[u8],
+    goals: &[i32],
+    p: Plan,
+    target: usize,
+    d: u8,
+    x: usize,
+    y: usize,
+) -> bool
+    requires { ⌜ Floor (now blocked) (now forced) (now goals) p × ((d < 8) × (Within (p .w) (p .h) x y × (target ≡ targetOf p))) ⌝ }
     ensures { λ r. ⌜ r ≡ haltsAt (now (blocked .entry)) (now (forced .entry)) (now (goals .entry)) p d x y ⌝ }
 {
     if stops(forced, goals, p, d, x, y) {
         return true;
     }
-    sees_aside(blocked, forced, goals, p, d, x, y)
+    sees_aside(blocked, forced, goals, p, target, d, x, y)
 }
 
 // A jump in direction d from a cell, its first step at the caller's price, later ones at their own. It finds nothing on leaving free cells.
@@ -189,6 +281,7 @@ pub fn jump_along(
     let ox = points::off_x(d);
     let oy = points::off_y(d);
     let step = price_of(d);
+    let target = goal_cell(p);
     let mut x = from.x;
     let mut y = from.y;
     let mut cost = price;
@@ -198,7 +291,7 @@ pub fn jump_along(
         if !is_free(blocked, w, h, x, y) {
             return Jump::Nothing;
         }
-        if halts(blocked, forced, goals, p, d, x, y) {
+        if halts(blocked, forced, goals, p, target, d, x, y) {
             return Jump::At(Cell { x, y }, cost);
         }
         cost += step;

@@ -20,7 +20,8 @@ use Rattle.nodes.specs.Nodes.{Nodes, Note, nodes, noteOf, Sound, Later}
 use Rattle.nodes.specs.Bound.{times, Hist, placesOf}
 use Rattle.offers.specs.declared.Mark.{Mark}
 use Rattle.offers.specs.declared.Step.{Step}
-use Rattle.offers.specs.declared.Step.the-variants.{Done, Refused}
+use Rattle.offers.specs.declared.Fate.{Fate}
+use Rattle.offers.specs.declared.Fate.the-variants.{Done, Refused}
 
 -- ---- places: the cells, and one more for an outside start
 
@@ -67,9 +68,12 @@ pub data Out : Type 0 where
   no : Refusal → Out
 
 -- what a step's answer and the slices come to
+abbrev pub outIn : Fate → Mark → List ℕ → List ℕ → List ℕ → List ℕ → List ℕ → List ℕ → Out
+outIn Done m number place parent cost keys idx = ok (view number place parent cost keys idx m)
+outIn (Refused w) m number place parent cost keys idx = no w
+
 abbrev pub outOf : Step → List ℕ → List ℕ → List ℕ → List ℕ → List ℕ → List ℕ → Out
-outOf (Done m) number place parent cost keys idx = ok (view number place parent cost keys idx m)
-outOf (Refused w) number place parent cost keys idx = no w
+outOf r number place parent cost keys idx = outIn (r .fate) (r .mark) number place parent cost keys idx
 
 -- what comes next, unless there was a refusal
 abbrev pub onward : Out → (State → Out) → Out

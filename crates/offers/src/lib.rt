@@ -14,10 +14,16 @@ pub struct Mark {
     pub heap: usize,
 }
 
-// The counts after a step, or a refusal.
-pub enum Step {
-    Done(Mark),
+// Whether a search goes on.
+pub enum Fate {
+    Done,
     Refused(Refusal),
+}
+
+// The counts after a step, and its fate. They stand side by side: in an enum each would be copied in the other's pieces.
+pub struct Step {
+    pub mark: Mark,
+    pub fate: Fate,
 }
 
 // The point of a place: a cell, or after the last cell the start.
@@ -66,19 +72,28 @@ pub fn offer(
     let r = nodes::note(number, place, parent, cost, count, cell, from, k);
     if r.kept {
         if limit <= heap {
-            return Step::Refused(Refusal::Fringe);
+            return Step {
+                mark: m,
+                fate: Fate::Refused(Refusal::Fringe),
+            };
         }
         let h = guess_at(goals, p, cell);
         let key = fringe::keys::key_of(k + h, h);
         let at = r.index;
         fringe::push(keys, idx, heap, key, at as u32);
-        return Step::Done(Mark {
-            count: r.count,
-            heap: heap + 1,
-        });
+        return Step {
+            mark: Mark {
+                count: r.count,
+                heap: heap + 1,
+            },
+            fate: Fate::Done,
+        };
     }
-    Step::Done(Mark {
-        count: r.count,
-        heap,
-    })
+    Step {
+        mark: Mark {
+            count: r.count,
+            heap,
+        },
+        fate: Fate::Done,
+    }
 }

@@ -48,7 +48,7 @@ use Rattle.maps.specs.declared.Rows.the-variants.{Good, Bad as BadRow}
 use Rattle.maps.specs.declared.Reading.{Reading}
 use Rattle.maps.specs.declared.Reading.the-variants.{Map, Bad}
 use Rattle.maps.proofs.Laws.{HBounded, head-fair, side-most}
-use Rattle.floors.specs.Floors.{readAs, readOf, judged, checkOf}
+use Rattle.floors.specs.Floors.{readAs, readOf, judged, checkIn, checkOf}
 use lib.Seq.{sets}
 use Rattle.answers.specs.Answers.{badText}
 use Rattle.grid.specs.Grids.{rebuildOutcome}
@@ -125,7 +125,7 @@ Fine l No = Even (length l) × (firstBad l ≡ Nowhere)
 Fine l (RefusedCheck r) = Unit {0}
 
 pub checked-fine : (g : Grid) (l : List ℤ) → Fine l (checkOf g l)
-unfolding checkOf
+unfolding checkOf checkIn
 checked-fine g l = by (legalOf g) (eqb (length l) 0) (eqb (length l % 2) 1) even (firstBad l) (λ e. e) (clearOf (g .width) (g .height) (g .blocked) l)
   where
     even : eqb (length l % 2) 1 ≡ false → length l % 2 ≡ 0

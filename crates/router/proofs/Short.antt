@@ -29,7 +29,7 @@ use Rattle.paths.specs.Walks.{point}
 use Rattle.answers.specs.Answers.{resultWord, popsWord, waypointsWord, clearWord, pointWord, lineWord, pointsText, answerText, badText}
 use Rattle.floors.specs.Floors.{readOf, checkOf}
 use Rattle.floors.specs.declared.MapRead.{MapRead}
-use Rattle.router.specs.Route.{settingsFor, exactOf, refusedText, checkedText, foundText, outcomeText, blank, searchText, mapTold, routeText}
+use Rattle.router.specs.Route.{settingsFor, exactOf, refusedText, checkedText, foundText, outcomeText, blank, searchText, mapTold, routeText, mostPrint}
 
 points-short : (l : List ℤ) → length (pointsText l) ≤ 10 * length l
 unfolding pointsText
@@ -77,11 +77,11 @@ out-length out p (found i k n s) = by (ltb (length out / 2) (length (routeIn s i
 out-length out p (refused w n) = refl
 
 -- every answer fits the room that `route` lends
-pub text-short : (t : List ℕ) → length (routeText t) ≤ 82100
+pub text-short : (t : List ℕ) → length (routeText t) ≤ mostPrint
 unfolding routeText badText
 text-short t = by (readOf t) (readOf t .outcome)
   where
-    by : (m : MapRead) (o : Change) → length (mapTold m o) ≤ 82100
+    by : (m : MapRead) (o : Change) → length (mapTold m o) ≤ mostPrint
     by m (RefusedMap r) =
         omega (arith, length-append (numberText resultWord 12) (numberText lineWord (toldOf r .line)), number-text-length resultWord 12, number-text-length lineWord (toldOf r .line))
     by m Done =
@@ -91,5 +91,5 @@ text-short t = by (readOf t) (readOf t .outcome)
         omega (arith, found-short g l (answerOf (length blank) e .pops) (answerOf (length blank) e .outcome), out-length blank (singlePlan g (settingsFor (m .diagonal)) false (m .start) (m .goal)) e)
 
 -- the bytes that `route` counts stand in the list that it leaves
-pub within : (n : ℕ) (t l new : List ℕ) → (n ≡ length (routeText t)) × (new ≡ sets l 0 (routeText t)) → 82100 ≤ length l → n ≤ length new
+pub within : (n : ℕ) (t l new : List ℕ) → (n ≡ length (routeText t)) × (new ≡ sets l 0 (routeText t)) → mostPrint ≤ length l → n ≤ length new
 within n t l new e h = omega (arith, e .0, ap length (e .1), length-sets l 0 (routeText t), text-short t)

@@ -85,3 +85,7 @@ mapTold m Done = searchText (rebuildOutcome (m .grid) (m .diagonal) .grid) (m .d
 
 unfoldable pub routeText : List ℕ → List ℕ
 routeText t = mapTold (readOf t) (readOf t .outcome)
+
+-- the most bytes that are printed
+abbrev pub mostPrint : ℕ
+mostPrint = 82100

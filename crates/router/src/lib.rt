@@ -7,7 +7,7 @@ ghost use lib.Seq.{sets};
 ghost use Rattle.finder.specs.Find.{answerOf, outAfter};
 ghost use Rattle.waypoints.specs.Waypoints.{singlePlan};
 ghost use Rattle.floors.specs.Floors.{checkOf};
-ghost use Rattle.router.specs.Route.{settingsFor, exactOf, refusedText, checkedText, outcomeText, Within, routeText};
+ghost use Rattle.router.specs.Route.{settingsFor, exactOf, refusedText, checkedText, outcomeText, Within, mostPrint, routeText};
 use costs::Settings;
 use finder::Answer;
 use finder::Outcome;
@@ -86,8 +86,9 @@ fn put_outcome(buf: &mut [u8], list: &[i32], g: Grid, a: Answer) -> usize
     }
 }
 
-// Writes what `route` prints of a text; how many bytes it is.
-pub fn route(text: &[u8], out: &mut [u8; PRINT]) -> usize
+// Writes what `route` prints of a text, in room for the most that is printed; how many bytes it is.
+pub fn route(text: &[u8], out: &mut [u8]) -> usize
+    requires { ⌜ mostPrint ≤ length (now out) ⌝ }
     ensures { λ r. ⌜ (r ≡ length (routeText (now (text .entry)))) × (now (out .exit) ≡ sets (now (out .entry)) 0 (routeText (now (text .entry)))) ⌝ }
 {
     let m = floors::read_map(text);

@@ -1,5 +1,6 @@
 // The search's loop over lent tables and lent working room.
 use goals::Plan;
+use offers::Fate;
 use offers::Mark;
 use offers::Step;
 use points::Refusal;
@@ -48,7 +49,10 @@ fn visit(
     ensures { λ r. ⌜ outOf r (now (number .exit)) (now (place .exit)) (now (parent .exit)) (now (cost .exit)) (now (keys .exit)) (now (idx .exit)) ≡ visitOf (yieldOf (tables (now (blocked .entry)) (now (neighbours .entry)) (now (forced .entry)) (now (goals .entry))) p) from k (view (now (number .entry)) (now (place .entry)) (now (parent .entry)) (now (cost .entry)) (now (keys .entry)) (now (idx .entry)) m) ⌝ }
 {
     if cost[from] < k {
-        return Step::Done(m);
+        return Step {
+            mark: m,
+            fate: Fate::Done,
+        };
     }
     expansion::expand_node(
         blocked,
@@ -122,9 +126,11 @@ fn pop_one(
         at,
         k,
     );
-    match r {
-        Step::Done(n) => Turn::On(n),
-        Step::Refused(w) => Turn::Halt(w),
+    let next = r.mark;
+    let fate = r.fate;
+    match fate {
+        Fate::Done => Turn::On(next),
+        Fate::Refused(w) => Turn::Halt(w),
     }
 }
 

@@ -33,7 +33,7 @@ use Rattle.jumps.proofs.byte.Reads as byte-reads
 use Rattle.jumps.proofs.jump_along.Reads as jump-along-reads
 use Rattle.jumps.proofs.price_of.Reads as price-of-reads
 use Rattle.jumps.proofs.spot.Reads as spot-reads
-use Rattle.masks.proofs.pruned_mask.Reads as pruned-mask-reads
+use Rattle.masks.proofs.pruned_now.Reads as pruned-now-reads
 use Rattle.points.proofs.direction_between.Reads as direction-between-reads
 use Rattle.expansion.proofs.+expand+follow.{statement}
 use Rattle.expansion.proofs.+expand+follow.Tie.{close}
@@ -57,7 +57,7 @@ abbrev follow-below : ℕ → In 10 follow-kinds.ps
 follow-below t = and 10 follow-kinds.ps (falls 10 follow-kinds.ps _<_ μ-follow t) follow.Pre
 
 abbrev expand-claims : ℕ → expand-lts.Claims
-expand-claims t = (spot-reads.Asked, spot-reads.Learnt, direction-between-reads.Asked, direction-between-reads.Learnt, byte-reads.Asked, byte-reads.Learnt, pruned-mask-reads.Asked, pruned-mask-reads.Learnt, price-of-reads.Asked, price-of-reads.Learnt, next-of-reads.Asked, next-of-reads.Learnt, follow-below t, follow.Post)
+expand-claims t = (spot-reads.Asked, spot-reads.Learnt, direction-between-reads.Asked, direction-between-reads.Learnt, byte-reads.Asked, byte-reads.Learnt, pruned-now-reads.Asked, pruned-now-reads.Learnt, price-of-reads.Asked, price-of-reads.Learnt, next-of-reads.Asked, next-of-reads.Learnt, follow-below t, follow.Post)
 
 abbrev follow-claims : ℕ → follow-lts.Claims
 follow-claims t = (jump-along-reads.Asked, jump-along-reads.Learnt, again-reads.Asked, again-reads.Learnt, expand-below t, expand.Post, give-reads.Asked, give-reads.Learnt)
@@ -88,8 +88,8 @@ expand-returns t c = expand-same _ _ _ _ _ _ _ _ (sym (c .enum-told .given .1) �
 expand-byte-requires : (t : ℕ) → expand-lts.Need-byte-requires (expand-claims t) (expand-at t) expand.Post expand-Inv-loop expand-μ-loop
 expand-byte-requires t c κs = let r = c .before .before .before .before .before .before .before .before .before .before .before .before .before .before .pre .1 in held (r .floors .sized-neighbours) (r .inside)
 
-expand-pruned-mask-requires : (t : ℕ) → expand-lts.Need-pruned-mask-requires (expand-claims t) (expand-at t) expand.Post expand-Inv-loop expand-μ-loop
-expand-pruned-mask-requires t c κs = search needs
+expand-pruned-now-requires : (t : ℕ) → expand-lts.Need-pruned-now-requires (expand-claims t) (expand-at t) expand.Post expand-Inv-loop expand-μ-loop
+expand-pruned-now-requires t c κs = search needs
 
 expand-price-of-requires : (t : ℕ) → expand-lts.Need-price-of-requires (expand-claims t) (expand-at t) expand.Post expand-Inv-loop expand-μ-loop
 expand-price-of-requires t c κs = search needs
@@ -113,37 +113,37 @@ expand-follow-requires t c κs =
       ),
     )
 
-expand-enum-known-r : (t : ℕ) → expand-lts.Need-enum-known-r (expand-claims t) (expand-at t) expand.Post expand-Inv-loop expand-μ-loop
-expand-enum-known-r t c = search needs
-
-expand-enum-told-2 : (t : ℕ) → expand-lts.Need-enum-told-2 (expand-claims t) (expand-at t) expand.Post expand-Inv-loop expand-μ-loop
-expand-enum-told-2 t c = search needs
+expand-enum-known-fate : (t : ℕ) → expand-lts.Need-enum-known-fate (expand-claims t) (expand-at t) expand.Post expand-Inv-loop expand-μ-loop
+expand-enum-known-fate t c = search needs
 
 expand-same-length : (t : ℕ) → expand-lts.Need-same-length (expand-claims t) (expand-at t) expand.Post expand-Inv-loop expand-μ-loop
-expand-same-length t c = c .before .before .before .before .before .before .before .before .before .before .before .before .before .before .follow .kept .1 .1 .1 .1 .0 ∙ c .before .before .before .before .before .before .before .before .before .before .before .before .before .before .before .before .before .before .before .before .before .before .loop .inv .0 .sizes .number
+expand-same-length t c = c .before .before .before .before .before .before .before .before .before .before .before .before .before .before .before .follow .kept .1 .1 .1 .1 .0 ∙ c .before .before .before .before .before .before .before .before .before .before .before .before .before .before .before .before .before .before .before .before .before .before .before .loop .inv .0 .sizes .number
 
 expand-same-length-2 : (t : ℕ) → expand-lts.Need-same-length-2 (expand-claims t) (expand-at t) expand.Post expand-Inv-loop expand-μ-loop
-expand-same-length-2 t c = c .before .before .before .before .before .before .before .before .before .before .before .before .before .before .follow .kept .1 .1 .1 .1 .1 .0 ∙ c .before .before .before .before .before .before .before .before .before .before .before .before .before .before .before .before .before .before .before .before .before .before .loop .inv .0 .sizes .place
+expand-same-length-2 t c = c .before .before .before .before .before .before .before .before .before .before .before .before .before .before .before .follow .kept .1 .1 .1 .1 .1 .0 ∙ c .before .before .before .before .before .before .before .before .before .before .before .before .before .before .before .before .before .before .before .before .before .before .before .loop .inv .0 .sizes .place
 
 expand-same-length-3 : (t : ℕ) → expand-lts.Need-same-length-3 (expand-claims t) (expand-at t) expand.Post expand-Inv-loop expand-μ-loop
-expand-same-length-3 t c = c .before .before .before .before .before .before .before .before .before .before .before .before .before .before .follow .kept .1 .1 .1 .1 .1 .1 .0 ∙ c .before .before .before .before .before .before .before .before .before .before .before .before .before .before .before .before .before .before .before .before .before .before .loop .inv .0 .sizes .parent
+expand-same-length-3 t c = c .before .before .before .before .before .before .before .before .before .before .before .before .before .before .before .follow .kept .1 .1 .1 .1 .1 .1 .0 ∙ c .before .before .before .before .before .before .before .before .before .before .before .before .before .before .before .before .before .before .before .before .before .before .before .loop .inv .0 .sizes .parent
 
 expand-same-length-4 : (t : ℕ) → expand-lts.Need-same-length-4 (expand-claims t) (expand-at t) expand.Post expand-Inv-loop expand-μ-loop
-expand-same-length-4 t c = c .before .before .before .before .before .before .before .before .before .before .before .before .before .before .follow .kept .1 .1 .1 .1 .1 .1 .1 .0 ∙ c .before .before .before .before .before .before .before .before .before .before .before .before .before .before .before .before .before .before .before .before .before .before .loop .inv .0 .sizes .cost
+expand-same-length-4 t c = c .before .before .before .before .before .before .before .before .before .before .before .before .before .before .before .follow .kept .1 .1 .1 .1 .1 .1 .1 .0 ∙ c .before .before .before .before .before .before .before .before .before .before .before .before .before .before .before .before .before .before .before .before .before .before .before .loop .inv .0 .sizes .cost
 
 expand-same-length-5 : (t : ℕ) → expand-lts.Need-same-length-5 (expand-claims t) (expand-at t) expand.Post expand-Inv-loop expand-μ-loop
-expand-same-length-5 t c = c .before .before .before .before .before .before .before .before .before .before .before .before .before .before .follow .kept .1 .1 .1 .1 .1 .1 .1 .1 .0 ∙ c .before .before .before .before .before .before .before .before .before .before .before .before .before .before .before .before .before .before .before .before .before .before .loop .inv .0 .sizes .keys
+expand-same-length-5 t c = c .before .before .before .before .before .before .before .before .before .before .before .before .before .before .before .follow .kept .1 .1 .1 .1 .1 .1 .1 .1 .0 ∙ c .before .before .before .before .before .before .before .before .before .before .before .before .before .before .before .before .before .before .before .before .before .before .before .loop .inv .0 .sizes .keys
 
 expand-same-length-6 : (t : ℕ) → expand-lts.Need-same-length-6 (expand-claims t) (expand-at t) expand.Post expand-Inv-loop expand-μ-loop
-expand-same-length-6 t c = c .before .before .before .before .before .before .before .before .before .before .before .before .before .before .follow .kept .1 .1 .1 .1 .1 .1 .1 .1 .1 .0 ∙ c .before .before .before .before .before .before .before .before .before .before .before .before .before .before .before .before .before .before .before .before .before .before .loop .inv .0 .sizes .idx
+expand-same-length-6 t c = c .before .before .before .before .before .before .before .before .before .before .before .before .before .before .before .follow .kept .1 .1 .1 .1 .1 .1 .1 .1 .1 .0 ∙ c .before .before .before .before .before .before .before .before .before .before .before .before .before .before .before .before .before .before .before .before .before .before .before .loop .inv .0 .sizes .idx
 
 expand-returns-2 : (t : ℕ) → expand-lts.Need-returns-2 (expand-claims t) (expand-at t) expand.Post expand-Inv-loop expand-μ-loop
 expand-returns-2 t c =
-    round-halt _ _ _ _ _ _ _ _ _ _ _ _ _ _ _ _ _ _ (c .before .before .before .before .before .before .before .before .before .before .before .before .before .before .before .before .before .before .before .before .before .before .loop .inv .0) _ _ _ _ _ _ _ (c .before .before .before .before .before .before .before .before .before .before .before .before .before .before .before .before .before .before .before .before .before .loop-test .taken) (c .before .before .before .before .before .before .before .before .before .before .before .before .before .before .follow .ensures ∙ follow-on _ _ _ _ _ _ _ _ _ _ _ (c .before .before .before .before .before .before .before .before .before .before .before .before .before .before .before .before .before .before .before .before .before .before .loop .inv .1 (c .before .before .before .before .before .before .before .before .before .before .before .before .before .before .before .before .before .before .before .before .before .loop-test .taken))) _ (c .enum-told2 .given .1)
+    round-halt _ _ _ _ _ _ _ _ _ _ _ _ _ _ _ _ _ _ (c .before .before .before .before .before .before .before .before .before .before .before .before .before .before .before .before .before .before .before .before .before .before .before .loop .inv .0) _ _ _ _ _ _ _ (c .before .before .before .before .before .before .before .before .before .before .before .before .before .before .before .before .before .before .before .before .before .before .loop-test .taken) (c .before .before .before .before .before .before .before .before .before .before .before .before .before .before .before .follow .ensures ∙ follow-on _ _ _ _ _ _ _ _ _ _ _ (c .before .before .before .before .before .before .before .before .before .before .before .before .before .before .before .before .before .before .before .before .before .before .before .loop .inv .1 (c .before .before .before .before .before .before .before .before .before .before .before .before .before .before .before .before .before .before .before .before .before .before .loop-test .taken))) _ (c .before .fate .given .1)
     ∙ expand-each _ _ _ _ _ _ _ _ _ _
-    (sym (c .before .before .before .before .before .before .before .before .before .before .before .before .before .before .before .before .before .before .before .before .before .before .before .before .before .before .before .before .travel .given .1) ∙ c .before .before .before .before .before .before .before .before .before .before .before .before .before .before .before .before .before .before .before .before .before .before .before .before .before .before .before .before .before .before .direction-between .ensures ∙ ap (headingOf (c .before .before .before .before .before .before .before .before .before .before .before .before .before .before .before .before .before .before .before .before .before .before .before .before .before .before .before .before .before .before .before .before .before .before .before .before .before .before .before .before .before .args .above)) (c .before .before .before .before .before .before .before .before .before .before .before .before .before .before .before .before .before .before .before .before .before .before .before .before .before .before .before .before .before .before .before .spot .ensures))
-    (c .before .before .before .before .before .before .before .before .before .before .before .before .before .before .before .before .before .before .before .before .before .before .before .before .before .pruned-mask .ensures ∙ ap (prunedIn (c .before .before .before .before .before .before .before .before .before .before .before .before .before .before .before .before .before .before .before .before .before .before .before .before .before .before .before .before .before .before .before .before .before .before .before .before .before .before .before .before .before .args .p .settings .diagonal) (c .before .before .before .before .before .before .before .before .before .before .before .before .before .before .before .before .before .before .before .before .before .before .before .before .before .before .before .before .travel .given .0 .0 .number % 8)) (c .before .before .before .before .before .before .before .before .before .before .before .before .before .before .before .before .before .before .before .before .before .before .before .before .before .before .byte .ensures))
-    (c .before .before .before .before .before .before .before .before .before .before .before .before .before .before .before .before .before .before .before .before .before .before .before .before .price-of .ensures)
+    (sym (c .before .before .before .before .before .before .before .before .before .before .before .before .before .before .before .before .before .before .before .before .before .before .before .before .before .before .before .before .before .travel .given .1) ∙ c .before .before .before .before .before .before .before .before .before .before .before .before .before .before .before .before .before .before .before .before .before .before .before .before .before .before .before .before .before .before .before .direction-between .ensures ∙ ap (headingOf (c .before .before .before .before .before .before .before .before .before .before .before .before .before .before .before .before .before .before .before .before .before .before .before .before .before .before .before .before .before .before .before .before .before .before .before .before .before .before .before .before .before .before .args .above)) (c .before .before .before .before .before .before .before .before .before .before .before .before .before .before .before .before .before .before .before .before .before .before .before .before .before .before .before .before .before .before .before .before .spot .ensures))
+    (c .before .before .before .before .before .before .before .before .before .before .before .before .before .before .before .before .before .before .before .before .before .before .before .before .before .before .pruned-now .ensures ∙ ap (prunedIn (c .before .before .before .before .before .before .before .before .before .before .before .before .before .before .before .before .before .before .before .before .before .before .before .before .before .before .before .before .before .before .before .before .before .before .before .before .before .before .before .before .before .before .args .p .settings .diagonal) (c .before .before .before .before .before .before .before .before .before .before .before .before .before .before .before .before .before .before .before .before .before .before .before .before .before .before .before .before .before .travel .given .0 .0 .number % 8)) (c .before .before .before .before .before .before .before .before .before .before .before .before .before .before .before .before .before .before .before .before .before .before .before .before .before .before .before .byte .ensures))
+    (c .before .before .before .before .before .before .before .before .before .before .before .before .before .before .before .before .before .before .before .before .before .before .before .before .before .price-of .ensures)
+
+expand-enum-told-2 : (t : ℕ) → expand-lts.Need-enum-told-2 (expand-claims t) (expand-at t) expand.Post expand-Inv-loop expand-μ-loop
+expand-enum-told-2 t c = search needs
 
 expand-add-next-of : (t : ℕ) → expand-lts.Need-add-next-of (expand-claims t) (expand-at t) expand.Post expand-Inv-loop expand-μ-loop
 expand-add-next-of t c = omega (arith, c .before .before .before .before .before .before .before .before .before .before .before .before .before .before .before .before .before .before .before .before .before .before .loop-test .taken)
@@ -160,7 +160,7 @@ expand-loop-again t c =
     let r = s .pre .1 in
     let k = c .before .before .before .before .before .before .before .before .before .before .before .before .before .before .before .before .before .before .before .before .before .before .before .before .before .before .price-of .ensures in (
       round-skip _ _ _ _ _ _ _ _ _ _ _ _ _ _ _ _ _ _ _ _ _ _ _ _ _ (c .next-of2 .ensures .0)
-          (round-turn _ _ _ _ _ _ _ _ _ _ _ _ _ _ _ _ _ _ (c .before .before .before .before .before .before .before .before .before .before .before .before .before .before .before .before .before .before .before .before .before .before .before .before .loop .inv .0) _ _ _ _ _ _ _ (c .before .before .before .before .before .before .before .before .before .before .before .before .before .before .before .before .before .before .before .before .before .before .before .loop-test .taken) (c .before .before .before .before .before .before .before .before .before .before .before .before .before .before .before .before .follow .ensures ∙ follow-on _ _ _ _ _ _ _ _ _ _ _ (c .before .before .before .before .before .before .before .before .before .before .before .before .before .before .before .before .before .before .before .before .before .before .before .before .loop .inv .1 (c .before .before .before .before .before .before .before .before .before .before .before .before .before .before .before .before .before .before .before .before .before .before .before .loop-test .taken))) _ (c .before .before .r .given .1)
+          (round-turn _ _ _ _ _ _ _ _ _ _ _ _ _ _ _ _ _ _ (c .before .before .before .before .before .before .before .before .before .before .before .before .before .before .before .before .before .before .before .before .before .before .before .before .loop .inv .0) _ _ _ _ _ _ _ (c .before .before .before .before .before .before .before .before .before .before .before .before .before .before .before .before .before .before .before .before .before .before .before .loop-test .taken) (c .before .before .before .before .before .before .before .before .before .before .before .before .before .before .before .before .follow .ensures ∙ follow-on _ _ _ _ _ _ _ _ _ _ _ (c .before .before .before .before .before .before .before .before .before .before .before .before .before .before .before .before .before .before .before .before .before .before .before .before .loop .inv .1 (c .before .before .before .before .before .before .before .before .before .before .before .before .before .before .before .before .before .before .before .before .before .before .before .loop-test .taken))) (c .before .before .enum-told2 .given .1)
           (λ u v f q e. follow-fit (tables (s .args .blocked .now) (s .args .neighbours .now) (s .args .forced .now) (s .args .goals .now)) (s .args .p) (s .args .from) (length (s .args .number .now)) (r .lent .floor) _ _ _ _ _ _ _ (r .floors .sized .wide) (r .floors .sized .high) (r .inside) (omega (arith, k)) (omega (arith, k)) u v f q e)
           (c .before .before .before .before .before .before .before .before .before .before .before .before .before .before .before .before .follow .kept .1 .1 .1 .1 .0) (c .before .before .before .before .before .before .before .before .before .before .before .before .before .before .before .before .follow .kept .1 .1 .1 .1 .1 .0) (c .before .before .before .before .before .before .before .before .before .before .before .before .before .before .before .before .follow .kept .1 .1 .1 .1 .1 .1 .0) (c .before .before .before .before .before .before .before .before .before .before .before .before .before .before .before .before .follow .kept .1 .1 .1 .1 .1 .1 .1 .0) (c .before .before .before .before .before .before .before .before .before .before .before .before .before .before .before .before .follow .kept .1 .1 .1 .1 .1 .1 .1 .1 .0) (c .before .before .before .before .before .before .before .before .before .before .before .before .before .before .before .before .follow .kept .1 .1 .1 .1 .1 .1 .1 .1 .1 .0)),
       c .next-of2 .ensures .1,
@@ -189,7 +189,7 @@ expand-returns-3 t c =
     round-end _ _ _ _ _ _ _ _ _ _ _ _ _ _ _ _ _ _ (c .before .loop .inv .0) (c .loop-test .left)
     ∙ expand-each _ _ _ _ _ _ _ _ _ _
     (sym (c .before .before .before .before .before .before .before .travel .given .1) ∙ c .before .before .before .before .before .before .before .before .before .direction-between .ensures ∙ ap (headingOf (c .before .before .before .before .before .before .before .before .before .before .before .before .before .before .before .before .before .before .before .before .args .above)) (c .before .before .before .before .before .before .before .before .before .before .spot .ensures))
-    (c .before .before .before .before .pruned-mask .ensures ∙ ap (prunedIn (c .before .before .before .before .before .before .before .before .before .before .before .before .before .before .before .before .before .before .before .before .args .p .settings .diagonal) (c .before .before .before .before .before .before .before .travel .given .0 .0 .number % 8)) (c .before .before .before .before .before .byte .ensures))
+    (c .before .before .before .before .pruned-now .ensures ∙ ap (prunedIn (c .before .before .before .before .before .before .before .before .before .before .before .before .before .before .before .before .before .before .before .before .args .p .settings .diagonal) (c .before .before .before .before .before .before .before .travel .given .0 .0 .number % 8)) (c .before .before .before .before .before .byte .ensures))
     (c .before .before .before .price-of .ensures)
 
 follow-jump-along-requires : (t : ℕ) → follow-lts.Need-jump-along-requires (follow-claims t) (follow-at t) follow.Post
@@ -298,13 +298,12 @@ pub +expand+follow-spec : {M : Type 1} → statement M
     (expand-enum-told t)
     (expand-returns t)
     (expand-byte-requires t)
-    (expand-pruned-mask-requires t)
+    (expand-pruned-now-requires t)
     (expand-price-of-requires t)
     (expand-next-of-requires t)
     (expand-loop-holds t)
     (expand-follow-requires t)
-    (expand-enum-known-r t)
-    (expand-enum-told-2 t)
+    (expand-enum-known-fate t)
     (expand-same-length t)
     (expand-same-length-2 t)
     (expand-same-length-3 t)
@@ -312,6 +311,7 @@ pub +expand+follow-spec : {M : Type 1} → statement M
     (expand-same-length-5 t)
     (expand-same-length-6 t)
     (expand-returns-2 t)
+    (expand-enum-told-2 t)
     (expand-add-next-of t)
     (expand-next-of-requires-2 t)
     (expand-loop-less t)

@@ -5,7 +5,7 @@ use Rattle.jumps.proofs.halts.Statement.{statement}
 use Rattle.jumps.proofs.halts.Tie as tie
 
 stops-requires : tie.Need-stops-requires
-stops-requires c κs = let f = c .before .before .pre in (f .0 .sized-forced, (f .0 .aimed, f .1 .1))
+stops-requires c κs = let f = c .before .before .pre in (f .0 .sized-forced, (f .0 .aimed, f .1 .1 .0))
 
 returns : tie.Need-returns
 unfolding haltsAt

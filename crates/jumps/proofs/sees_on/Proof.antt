@@ -1,21 +1,23 @@
--- `jumps::sees_on` meets its contract. The invariant: what is to be found from here is the answer, at whatever cost (`Looking`). The measure is what is left ahead. Assumes nothing.
+-- `jumps::sees_on` meets its contract. The invariant: the number is that of a cell from which the answer is to be found (`Numbered`). The measure is what is left ahead. Assumes nothing.
 use borrow.Author.Needs.{needs}
-use borrow.Author.Tests.{not-true, not-false}
 use mathlib.Core.Path.{ap, sym, _∙_}
 use Prim.Native.Nat.{_+_, _-_}
+use native.Mathlib.Nat.{mul-le-mul}
 use native.Mathlib.Omega.{arith}
-use Rattle.jumps.specs.Floor.{stopsAt, runOn, isAt, seesOn}
-use Rattle.jumps.proofs.Laws.{free-inside}
-use Rattle.jumps.proofs.Going.{Looking, moves, left, start, nothing, here, less, on}
+use Rattle.jumps.specs.Floor.{stopsAt, stopsIn, runOn, isAt, seesOn}
+use Rattle.jumps.proofs.Laws.{place-lt, placed}
+use Rattle.jumps.proofs.Going.{moves, start, nothing, here}
+use Rattle.jumps.proofs.Targets.{stops-in}
+use Rattle.jumps.proofs.Steps.{Numbered, next-in, next-out, next-is, next-here, next-fits, next-low, next-blocked, next-free, next-on}
 use Rattle.jumps.proofs.sees_on.Statement.{statement}
 use Rattle.jumps.proofs.sees_on.Tie as tie
 
 abbrev Inv-loop : tie.InvT-loop
-Inv-loop blocked forced goals p d x y w h ox oy cx₀ cy₀ cx cy =
-    Looking blocked (p .w) (p .h) (stopsAt forced goals p d) ox oy 70 (runOn blocked p (stopsAt forced goals p d) d 70 cx₀ cy₀ 1) cx cy
+Inv-loop blocked forced goals p target d x y w ox oy step left₀ i₀ left i =
+    Numbered blocked (p .w) (p .h) (stopsAt forced goals p d) ox oy (runOn blocked p (stopsAt forced goals p d) d 70 x y 1) left i
 
 abbrev μ-loop : tie.MeasureT-loop
-μ-loop blocked forced goals p d x y w h ox oy cx₀ cy₀ cx cy = left ox oy (p .w) (p .h) cx cy
+μ-loop blocked forced goals p target d x y w ox oy step left₀ i₀ left i = left
 
 off-x-requires : tie.Need-off-x-requires Inv-loop μ-loop
 off-x-requires c κs = search needs
@@ -23,42 +25,64 @@ off-x-requires c κs = search needs
 off-y-requires : tie.Need-off-y-requires Inv-loop μ-loop
 off-y-requires c κs = search needs
 
+mul-step : tie.Need-mul-step Inv-loop μ-loop
+mul-step c = let f = c .before .before .before .before .pre .0 .sized in omega (arith, mul-le-mul (c .off-y .ensures .1) (f .wide))
+
+add-step : tie.Need-add-step Inv-loop μ-loop
+add-step c = let f = c .before .before .before .before .pre .0 .sized in omega (arith, c .before .off-x .ensures .1, mul-le-mul (c .off-y .ensures .1) (f .wide))
+
+reach-requires : tie.Need-reach-requires Inv-loop μ-loop
+reach-requires c κs = search needs
+
+number-requires : tie.Need-number-requires Inv-loop μ-loop
+number-requires c κs = let f = c .before .before .before .before .before .pre in placed (f .0 .sized .wide) (f .0 .sized .high) (f .1 .0)
+
 loop-holds : tie.Need-loop-holds Inv-loop μ-loop
 loop-holds c =
-    let f = c .before .before .before .before .pre in
-    record { cost = 1; going = start _ _ _ _ _ _ _ _ _ _ _ (f .1) (f .0 .sized .wide) (f .0 .sized .high) (omega arith) (rw (c .before .off-x .ensures .0, c .off-y .ensures .0)) }
+    let f = c .before .before .before .before .before .before .pre in
+    record {
+      x = c .before .before .before .before .before .before .args .x;
+      y = c .before .before .before .before .before .before .args .y;
+      looking = record { cost = 1; going = start _ _ _ _ _ _ _ _ _ _ _ (f .1 .0) (f .0 .sized .wide) (f .0 .sized .high) (omega arith) (rw (c .before .before .before .off-x .ensures .0, c .before .before .off-y .ensures .0)) };
+      here = c .number .ensures;
+      ahead = c .before .reach .ensures;
+    }
 
-add-cx : tie.Need-add-cx Inv-loop μ-loop
-add-cx c = omega (arith, c .before .before .off-x .ensures .1, c .loop .inv .going .inside, c .before .before .before .before .before .pre .0 .sized)
+add-i : tie.Need-add-i Inv-loop μ-loop
+add-i c = let f = c .before .before .before .before .before .before .before .before .pre .0 .sized in omega (arith, next-is _ _ _ _ _ _ _ _ _ (moves _ _ _ (c .before .before .before .before .before .off-x .ensures .0) (c .before .before .before .before .off-y .ensures .0)) (c .before .loop .inv) (c .loop-test .taken), place-lt (next-in _ _ _ _ _ _ _ _ _ (moves _ _ _ (c .before .before .before .before .before .off-x .ensures .0) (c .before .before .before .before .off-y .ensures .0)) (c .before .loop .inv) (c .loop-test .taken)), mul-le-mul (f .high) (f .wide), f .wide)
 
-sub-cx : tie.Need-sub-cx Inv-loop μ-loop
-sub-cx c = omega (arith, c .loop .inv .going .inside)
+add-i-2 : tie.Need-add-i-2 Inv-loop μ-loop
+add-i-2 c = search needs
 
-add-cy : tie.Need-add-cy Inv-loop μ-loop
-add-cy c = omega (arith, c .before .off-y .ensures .1, c .loop .inv .going .inside, c .before .before .before .before .before .pre .0 .sized)
+sub-i : tie.Need-sub-i Inv-loop μ-loop
+sub-i c = next-fits _ _ _ _ _ _ _ _ _ (moves _ _ _ (c .before .before .before .before .before .off-x .ensures .0) (c .before .before .before .before .off-y .ensures .0)) (c .before .loop .inv) (c .loop-test .taken)
 
-sub-cy : tie.Need-sub-cy Inv-loop μ-loop
-sub-cy c = omega (arith, c .loop .inv .going .inside)
-
-is-free-requires : tie.Need-is-free-requires Inv-loop μ-loop
-is-free-requires c κs = c .before .before .before .before .before .pre .0 .sized
+shared-slice-read-if1 : tie.Need-shared-slice-read-if1 Inv-loop μ-loop
+shared-slice-read-if1 c = omega (arith, next-low _ _ _ _ _ _ _ _ _ (moves _ _ _ (c .before .before .before .before .before .before .off-x .ensures .0) (c .before .before .before .before .before .off-y .ensures .0)) (c .before .before .loop .inv) (c .before .loop-test .taken), c .before .before .before .before .before .before .before .before .before .pre .0 .sized .size)
 
 returns : tie.Need-returns Inv-loop μ-loop
 unfolding seesOn
-returns c = ap isAt (nothing _ _ _ _ _ _ _ _ _ _ _ (moves _ _ _ (c .before .before .before .before .off-x .ensures .0) (c .before .before .before .off-y .ensures .0)) (c .before .before .loop .inv .going) (sym (c .before .is-free .ensures) ∙ not-true _ (c .if1 .taken)))
+returns c = ap isAt (nothing _ _ _ _ _ _ _ _ _ _ _ (moves _ _ _ (c .before .before .before .before .before .before .before .off-x .ensures .0) (c .before .before .before .before .before .before .off-y .ensures .0)) (c .before .before .before .loop .inv .looking .going) (next-blocked _ _ _ _ _ _ _ _ _ (moves _ _ _ (c .before .before .before .before .before .before .before .off-x .ensures .0) (c .before .before .before .before .before .before .off-y .ensures .0)) (c .before .before .before .loop .inv) (c .before .before .loop-test .taken) (c .if1 .taken)))
 
-stops-requires : tie.Need-stops-requires Inv-loop μ-loop
-stops-requires c κs = let f = c .before .before .before .before .before .before .before .pre in (f .0 .sized-forced, (f .0 .aimed, free-inside _ _ _ _ _ (sym (c .before .is-free .ensures) ∙ not-false _ (c .if1 .left))))
+stops-in-requires : tie.Need-stops-in-requires Inv-loop μ-loop
+stops-in-requires c κs = let f = c .before .before .before .before .before .before .before .before .before .before .pre in (f .0 .sized-forced, (f .0 .aimed, (f .1 .1, next-low _ _ _ _ _ _ _ _ _ (moves _ _ _ (c .before .before .before .before .before .before .before .off-x .ensures .0) (c .before .before .before .before .before .before .off-y .ensures .0)) (c .before .before .before .loop .inv) (c .before .before .loop-test .taken))))
 
 returns-2 : tie.Need-returns-2 Inv-loop μ-loop
 unfolding seesOn
-returns-2 c = ap isAt (here _ _ _ _ _ _ _ _ _ _ _ (moves _ _ _ (c .before .before .before .before .before .before .off-x .ensures .0) (c .before .before .before .before .before .off-y .ensures .0)) (c .before .before .before .before .loop .inv .going) (sym (c .before .before .before .is-free .ensures) ∙ not-false _ (c .before .before .if1 .left)) (sym (c .before .stops .ensures) ∙ c .if2 .taken))
+returns-2 c = ap isAt (here _ _ _ _ _ _ _ _ _ _ _ (moves _ _ _ (c .before .before .before .before .before .before .before .before .before .off-x .ensures .0) (c .before .before .before .before .before .before .before .before .off-y .ensures .0)) (c .before .before .before .before .before .loop .inv .looking .going) (next-free _ _ _ _ _ _ _ _ _ (moves _ _ _ (c .before .before .before .before .before .before .before .before .before .off-x .ensures .0) (c .before .before .before .before .before .before .before .before .off-y .ensures .0)) (c .before .before .before .before .before .loop .inv) (c .before .before .before .before .loop-test .taken) (c .before .before .if1 .left)) (sym (stops-in _ _ _ _ (next-in _ _ _ _ _ _ _ _ _ (moves _ _ _ (c .before .before .before .before .before .before .before .before .before .off-x .ensures .0) (c .before .before .before .before .before .before .before .before .off-y .ensures .0)) (c .before .before .before .before .before .loop .inv) (c .before .before .before .before .loop-test .taken))) ∙ ap (stopsIn _ _ _ _) (sym (next-here _ _ _ _ _ _ _ _ _ (moves _ _ _ (c .before .before .before .before .before .before .before .before .before .off-x .ensures .0) (c .before .before .before .before .before .before .before .before .off-y .ensures .0)) (c .before .before .before .before .before .loop .inv) (c .before .before .before .before .loop-test .taken))) ∙ sym (c .before .stops-in .ensures) ∙ c .if2 .taken))
+
+sub-left : tie.Need-sub-left Inv-loop μ-loop
+sub-left c = search needs
 
 loop-less : tie.Need-loop-less Inv-loop μ-loop
-loop-less c = less _ _ _ _ _ _ _ _ _ _ _ (moves _ _ _ (c .before .before .before .before .before .before .off-x .ensures .0) (c .before .before .before .before .before .off-y .ensures .0)) (c .before .before .before .before .loop .inv .going) (sym (c .before .before .before .is-free .ensures) ∙ not-false _ (c .before .before .if1 .left))
+loop-less c = search needs
 
 loop-again : tie.Need-loop-again Inv-loop μ-loop
-loop-again c = record { cost = c .before .before .before .before .loop .inv .cost + 70; going = on _ _ _ _ _ _ _ _ _ _ _ (moves _ _ _ (c .before .before .before .before .before .before .off-x .ensures .0) (c .before .before .before .before .before .off-y .ensures .0)) (c .before .before .before .before .loop .inv .going) (sym (c .before .before .before .is-free .ensures) ∙ not-false _ (c .before .before .if1 .left)) (omega arith) (sym (c .before .stops .ensures) ∙ c .if2 .left) }
+loop-again c = next-on _ _ _ _ _ _ _ _ _ (moves _ _ _ (c .before .before .before .before .before .before .before .before .before .off-x .ensures .0) (c .before .before .before .before .before .before .before .before .off-y .ensures .0)) (c .before .before .before .before .before .loop .inv) (c .before .before .before .before .loop-test .taken) (next-free _ _ _ _ _ _ _ _ _ (moves _ _ _ (c .before .before .before .before .before .before .before .before .before .off-x .ensures .0) (c .before .before .before .before .before .before .before .before .off-y .ensures .0)) (c .before .before .before .before .before .loop .inv) (c .before .before .before .before .loop-test .taken) (c .before .before .if1 .left)) (sym (stops-in _ _ _ _ (next-in _ _ _ _ _ _ _ _ _ (moves _ _ _ (c .before .before .before .before .before .before .before .before .before .off-x .ensures .0) (c .before .before .before .before .before .before .before .before .off-y .ensures .0)) (c .before .before .before .before .before .loop .inv) (c .before .before .before .before .loop-test .taken))) ∙ ap (stopsIn _ _ _ _) (sym (next-here _ _ _ _ _ _ _ _ _ (moves _ _ _ (c .before .before .before .before .before .before .before .before .before .off-x .ensures .0) (c .before .before .before .before .before .before .before .before .off-y .ensures .0)) (c .before .before .before .before .before .loop .inv) (c .before .before .before .before .loop-test .taken))) ∙ sym (c .before .stops-in .ensures) ∙ c .if2 .left)
+
+returns-3 : tie.Need-returns-3 Inv-loop μ-loop
+unfolding seesOn
+returns-3 c = ap isAt (nothing _ _ _ _ _ _ _ _ _ _ _ (moves _ _ _ (c .before .before .before .before .before .off-x .ensures .0) (c .before .before .before .before .off-y .ensures .0)) (c .before .loop .inv .looking .going) (next-out _ _ _ _ _ _ _ _ _ (moves _ _ _ (c .before .before .before .before .before .off-x .ensures .0) (c .before .before .before .before .off-y .ensures .0)) (c .before .loop .inv) (omega (arith, c .loop-test .left))))
 
 pub sees-on-spec : {M : Type 1} → statement M
 sees-on-spec =
@@ -68,14 +92,19 @@ sees-on-spec =
     μ-loop
     off-x-requires
     off-y-requires
+    mul-step
+    add-step
+    reach-requires
+    number-requires
     loop-holds
-    add-cx
-    sub-cx
-    add-cy
-    sub-cy
-    is-free-requires
+    add-i
+    add-i-2
+    sub-i
+    shared-slice-read-if1
     returns
-    stops-requires
+    stops-in-requires
     returns-2
+    sub-left
     loop-less
-    loop-again)
+    loop-again
+    returns-3)

@@ -42,8 +42,8 @@ cast-push c =
 push-requires : tie.Need-push-requires
 push-requires c κs = search needs
 
-add-t38 : tie.Need-add-t38
-add-t38 c = let a = c .before .before .before .before .before .before .before .before .before .before .before .before .before .before .before .before .before .before .before .before .before .before .before .before .before .before .before .before .before .before in omega (arith, a .pre .0 .keys-long, c .before .before .before .before .before .before .before .before .before .if2 .left, a .good)
+add-t39 : tie.Need-add-t39
+add-t39 c = let a = c .before .before .before .before .before .before .before .before .before .before .before .before .before .before .before .before .before .before .before .before .before .before .before .before .before .before .before .before .before .before in omega (arith, a .pre .0 .keys-long, c .before .before .before .before .before .before .before .before .before .if2 .left, a .good)
 
 same-length-5 : tie.Need-same-length-5
 same-length-5 c = search needs
@@ -98,7 +98,7 @@ offer-spec =
     key-of-requires
     cast-push
     push-requires
-    add-t38
+    add-t39
     same-length-5
     same-length-6
     same-length-7

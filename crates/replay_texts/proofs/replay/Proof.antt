@@ -33,6 +33,9 @@ part-text-start c = search needs
 part-text-end : tie.Need-part-text-end
 part-text-end c = search needs
 
+slice-aggregate-route : tie.Need-slice-aggregate-route
+slice-aggregate-route c = search needs
+
 route-requires : tie.Need-route-requires
 route-requires c κs = search needs
 
@@ -46,10 +49,10 @@ part-want-end : tie.Need-part-want-end
 part-want-end c = search needs
 
 array-share-prefix-out : tie.Need-array-share-prefix-out
-array-share-prefix-out c = printed (c .before)
+array-share-prefix-out c = printed (c .before .before)
 
 slice-aggregate-unlike : tie.Need-slice-aggregate-unlike
-slice-aggregate-unlike c = sym (length-take-le (c .before .before .route .result) (c .before .before .route .last .1 .0) (printed (c .before .before)))
+slice-aggregate-unlike c = sym (length-take-le (c .before .before .before .route .result) (c .before .before .before .route .last .1 .0) (printed (c .before .before .before)))
 
 unlike-requires : tie.Need-unlike-requires
 unlike-requires c κs = search needs
@@ -74,6 +77,7 @@ replay-spec =
     sub-text
     part-text-start
     part-text-end
+    slice-aggregate-route
     route-requires
     sub-want
     part-want-start

@@ -29,14 +29,17 @@ array-share-prefix-text c = search needs
 slice-aggregate-route : tie.Need-slice-aggregate-route
 slice-aggregate-route c = search needs
 
+slice-aggregate-route-2 : tie.Need-slice-aggregate-route-2
+slice-aggregate-route-2 c = search needs
+
 route-requires : tie.Need-route-requires
 route-requires c κs = search needs
 
 array-share-prefix-out : tie.Need-array-share-prefix-out
-array-share-prefix-out c = printed c
+array-share-prefix-out c = printed (c .before)
 
 slice-aggregate-write-all : tie.Need-slice-aggregate-write-all
-slice-aggregate-write-all c = sym (length-take-le (c .before .route .result) (c .before .route .last .1 .0) (printed (c .before)))
+slice-aggregate-write-all c = sym (length-take-le (c .before .before .route .result) (c .before .before .route .last .1 .0) (printed (c .before .before)))
 
 write-all-requires : tie.Need-write-all-requires
 write-all-requires c κs = search needs
@@ -61,6 +64,7 @@ main-spec =
     read-full-requires
     array-share-prefix-text
     slice-aggregate-route
+    slice-aggregate-route-2
     route-requires
     array-share-prefix-out
     slice-aggregate-write-all

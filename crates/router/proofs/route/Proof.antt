@@ -1,3 +1,4 @@
+-- `router::route` meets its contract: reader, rebuild, search and writer composed. Assumes nothing.
 use Rattle.router.proofs.Laws.{by-text, few-pops, few-points, line-low, route-bad, route-done}
 use Rattle.router.specs.Route.{Within, blank, exactOf, outcomeText, searchText, routeText}
 use Rattle.floors.specs.Floors.{readOf}
@@ -16,19 +17,11 @@ use mathlib.Core.Path.{_≡_, refl, sym, ap, _∙_, subst}
 use borrow.Author.Needs.{needs}
 use Rattle.router.proofs.route.Statement.{statement}
 use Rattle.router.proofs.route.Tie as tie
-use Rattle.router.proofs.route.Reads as reads
-use Rattle.router.proofs.route.Lts as lts
-use Rattle.answers.proofs.put_bad.Reads as put-bad-reads
-use Rattle.floors.proofs.read_map.Reads as read-map-reads
-use Rattle.grid.proofs.generate_components.Reads as generate-components-reads
-use Rattle.points.proofs.Refusal.told.Reads as told-reads
-use Rattle.router.proofs.put_outcome.Reads as put-outcome-reads
-use Rattle.router.proofs.searched.Reads as searched-reads
 
 -- a refused text
 module _ (e : tie.After-outcome) where
   abbrev text₁ : List ℕ
-  text₁ = now (e .before .before .before .before .args .text)
+  text₁ = now (e .before .before .before .before .before .args .text)
 
   refused-is : readOf text₁ .outcome ≡ Refused (e .outcome .given .0 .0)
   refused-is = ap (λ x. x .outcome) (sym (e .before .before .read-map .ensures)) ∙ e .outcome .given .1
@@ -49,14 +42,17 @@ cast-put-bad : tie.Need-cast-put-bad
 cast-put-bad c = omega (arith, low (c .before .before .before .before), ap (λ x. x .line) (c .before .before .told .ensures))
 
 put-bad-requires : tie.Need-put-bad-requires
-put-bad-requires c κs = (omega (arith, low (c .before .before .before .before), ap (λ x. x .line) (c .before .before .told .ensures)), omega arith)
+put-bad-requires c κs = (omega (arith, low (c .before .before .before .before), ap (λ x. x .line) (c .before .before .told .ensures)), omega (arith, c .before .before .before .before .before .before .before .before .before .pre))
+
+same-length : tie.Need-same-length
+same-length c = search needs
 
 returns : tie.Need-returns
 returns c =
-    let a = c .before .before .before .before .before .before .before .before .before .args in
+    let a = c .before .before .before .before .before .before .before .before .before .before .before .before .args in
     let t = now (a .text) in
-    let p = c .put-bad in
-    by-text (p .result) (now (a .out)) (p .last .0) (badText (c .before .before .before .told .result .line)) (routeText t) (ap (λ x. badText (x .line)) (c .before .before .before .told .ensures) ∙ route-bad t (c .before .before .before .before .before .outcome .given .0 .0) (refused-is (c .before .before .before .before .before))) (p .ensures)
+    let p = c .before .before .put-bad in
+    by-text (p .result) (now (a .out)) (p .last .0) (badText (c .before .before .before .before .before .told .result .line)) (routeText t) (ap (λ x. badText (x .line)) (c .before .before .before .before .before .told .ensures) ∙ route-bad t (c .before .before .before .before .before .before .before .outcome .given .0 .0) (refused-is (c .before .before .before .before .before .before .before))) (p .ensures)
 
 enum-told : tie.Need-enum-told
 enum-told c = search needs
@@ -82,23 +78,26 @@ put-outcome-requires c κs =
       omega (arith, ap (λ (x : Answer). x .pops) (s .ensures .0), few-pops n g (m .diagonal) (m .start) (m .goal)),
       subst (λ (k : ℕ). Within k (s .result .outcome)) (sym (s .kept .0)) (subst (λ (x : Answer). Within n (x .outcome)) (sym (s .ensures .0)) (few-points n (exactOf g (m .diagonal) (m .start) (m .goal)))),
       omega (arith, s .kept .0),
-      omega (arith, s .kept .0),
+      omega (arith, s .kept .0, c .before .before .before .before .before .before .before .before .before .before .before .before .before .before .before .pre),
     )
+
+same-length-2 : tie.Need-same-length-2
+same-length-2 c = search needs
 
 returns-2 : tie.Need-returns-2
 returns-2 c =
-    let a = c .before .before .before .before .before .before .before .before .before .before .before .before .before .before .before .args in
+    let a = c .before .before .before .before .before .before .before .before .before .before .before .before .before .before .before .before .before .before .args in
     let t = now (a .text) in
-    let r = c .before .before .before .before .before .before .before .before .before .before .before .before .before .read-map in
+    let r = c .before .before .before .before .before .before .before .before .before .before .before .before .before .before .before .read-map in
     let m = r .result in
-    let e = c .before .before .before .before .before .before .before .generate-components in
-    let s = c .before .before .before .before .searched in
-    let p = c .put-outcome in
+    let e = c .before .before .before .before .before .before .before .before .before .generate-components in
+    let s = c .before .before .before .before .before .before .searched in
+    let p = c .before .before .put-outcome in
     by-text (p .result) (now (a .out)) (p .last .0) (outcomeText (e .result .grid) (s .last .0) (s .result)) (routeText t)
     ((λ i. outcomeText (e .result .grid) (s .ensures .1 i) (s .ensures .0 i))
     ∙ (λ i. searchText (e .ensures i .grid) (m .diagonal) (m .start) (m .goal))
     ∙ (λ i. searchText (rebuildOutcome (r .ensures i .grid) (r .ensures i .diagonal) .grid) (r .ensures i .diagonal) (r .ensures i .start) (r .ensures i .goal))
-    ∙ route-done t (ap (λ x. x .outcome) (sym (r .ensures)) ∙ c .before .before .before .before .before .before .before .before .before .before .before .enum-told .given .1)) (p .ensures)
+    ∙ route-done t (ap (λ x. x .outcome) (sym (r .ensures)) ∙ c .before .before .before .before .before .before .before .before .before .before .before .before .before .enum-told .given .1)) (p .ensures)
 
 pub route-spec : {M : Type 1} → statement M
 route-spec =
@@ -109,6 +108,7 @@ route-spec =
     told-requires
     cast-put-bad
     put-bad-requires
+    same-length
     returns
     enum-told
     generate-components-requires
@@ -116,4 +116,5 @@ route-spec =
     searched-requires
     slice-aggregate-put-outcome
     put-outcome-requires
+    same-length-2
     returns-2)

@@ -50,11 +50,11 @@ returns c = let a = c .before .before .before .before .before .before .before .b
 visit-requires : tie.Need-visit-requires
 visit-requires c κs = let a = c .before .before .before .before .before .before .before .before .before .before .before .before .before .before .before .before .before .before .before .before .before .before .before .before .before .before .before in let e = c .before .before .before .before .before .before .before .before .before .before .before .before .before .before .before .pop in let k = pop-known (a .pre .0) (a .pre .1 .1 .1 .1) (a .pre .1 .1 .1 .0) (a .pre .1 .1 .0) _ (e .ensures .0) in (pop-lent (a .pre .0) (a .pre .1 .1 .1 .1) (a .pre .1 .1 .1 .0) (e .last .0) (e .last .1 .0) (e .ensures .1) (e .kept .0) (e .kept .1 .0), (a .pre .1 .0, (a .pre .1 .1 .0 .start, (k .0, (pop-backed (a .pre .0) (a .pre .1 .1 .1 .1) (a .pre .1 .1 .1 .0) _ (k .0), omega (arith, k .1, c .before .before .before .before .before .before .before .before .before .cost-of .ensures))))))
 
-enum-known-r : tie.Need-enum-known-r
-enum-known-r c = search needs
+enum-told : tie.Need-enum-told
+enum-told c = search needs
 
-enum-known-r-2 : tie.Need-enum-known-r-2
-enum-known-r-2 c = search needs
+enum-known-fate : tie.Need-enum-known-fate
+enum-known-fate c = search needs
 
 same-length-3 : tie.Need-same-length-3
 same-length-3 c = c .before .before .before .before .before .before .before .before .before .before .before .before .before .before .before .visit .kept .1 .1 .1 .1 .0
@@ -75,28 +75,28 @@ same-length-8 : tie.Need-same-length-8
 same-length-8 c = c .before .before .before .before .before .before .before .before .before .before .before .before .before .before .before .visit .kept .1 .1 .1 .1 .1 .1 .1 .1 .1 .0 ∙ c .before .before .before .before .before .before .before .before .before .before .before .before .before .before .before .before .before .before .before .before .before .before .before .before .before .before .before .before .before .before .before .pop .kept .1 .0
 
 returns-2 : tie.Need-returns-2
-returns-2 c = let a = c .before .before .before .before .before .before .before .before .before .before .before .before .before .before .before .before .before .before .before .before .before .before .before .before .before .before .before .before .before .before .before .before .before .before .before .before .before .before .before .before .before .before .before in let e = c .before .before .before .before .before .before .before .before .before .before .before .before .before .before .before .before .before .before .before .before .before .before .before .before .before .before .before .before .before .before .before .pop in let k = pop-known (a .pre .0) (a .pre .1 .1 .1 .1) (a .pre .1 .1 .1 .0) (a .pre .1 .1 .0) _ (e .ensures .0) in pop-go (yieldOf (tables (a .args .blocked .now) (a .args .neighbours .now) (a .args .forced .now) (a .args .goals .now)) (a .args .p)) (goalOf (a .args .goals .now) (a .args .p)) _ _ (view (a .args .number .now) (a .args .place .now) (a .args .parent .now) (a .args .cost .now) (a .args .keys .now) (a .args .idx .now) (a .args .m)) (view (a .args .number .now) (a .args .place .now) (a .args .parent .now) (a .args .cost .now) (e .last .0) (e .last .1 .0) (record { count = a .args .m .count; heap = a .args .m .heap - 1 })) (e .ensures .0) (c .before .before .before .before .before .before .before .before .before .before .before .before .before .before .before .before .before .before .before .before .before .before .before .before .before .cost-of .ensures) (pop-is (a .pre .0) (a .pre .1 .1 .1 .1) (a .pre .1 .1 .1 .0) (e .last .0) (e .last .1 .0) (e .ensures .1)) _ (ap (goalOf (a .args .goals .now) (a .args .p)) (getD-take (a .args .m .count) (a .args .place .now) (e .result .index) 0 (k .0)) ∙ sym (c .before .before .before .before .before .before .before .before .before .before .before .before .before .before .before .before .before .before .before .before .before .before .before .at-goal .ensures) ∙ c .before .before .before .before .before .before .before .before .before .before .before .before .before .before .before .before .before .before .before .before .before .before .if1 .left) (done-ok _ _ _ _ _ _ _ _ _ (c .before .before .before .before .before .before .before .before .before .before .before .before .before .before .before .visit .ensures) (c .before .r .given .1))
+returns-2 c = let a = c .before .before .before .before .before .before .before .before .before .before .before .before .before .before .before .before .before .before .before .before .before .before .before .before .before .before .before .before .before .before .before .before .before .before .before .before .before .before .before .before .before .before .before in let e = c .before .before .before .before .before .before .before .before .before .before .before .before .before .before .before .before .before .before .before .before .before .before .before .before .before .before .before .before .before .before .before .pop in let k = pop-known (a .pre .0) (a .pre .1 .1 .1 .1) (a .pre .1 .1 .1 .0) (a .pre .1 .1 .0) _ (e .ensures .0) in pop-go (yieldOf (tables (a .args .blocked .now) (a .args .neighbours .now) (a .args .forced .now) (a .args .goals .now)) (a .args .p)) (goalOf (a .args .goals .now) (a .args .p)) _ _ (view (a .args .number .now) (a .args .place .now) (a .args .parent .now) (a .args .cost .now) (a .args .keys .now) (a .args .idx .now) (a .args .m)) (view (a .args .number .now) (a .args .place .now) (a .args .parent .now) (a .args .cost .now) (e .last .0) (e .last .1 .0) (record { count = a .args .m .count; heap = a .args .m .heap - 1 })) (e .ensures .0) (c .before .before .before .before .before .before .before .before .before .before .before .before .before .before .before .before .before .before .before .before .before .before .before .before .before .cost-of .ensures) (pop-is (a .pre .0) (a .pre .1 .1 .1 .1) (a .pre .1 .1 .1 .0) (e .last .0) (e .last .1 .0) (e .ensures .1)) _ (ap (goalOf (a .args .goals .now) (a .args .p)) (getD-take (a .args .m .count) (a .args .place .now) (e .result .index) 0 (k .0)) ∙ sym (c .before .before .before .before .before .before .before .before .before .before .before .before .before .before .before .before .before .before .before .before .before .before .before .at-goal .ensures) ∙ c .before .before .before .before .before .before .before .before .before .before .before .before .before .before .before .before .before .before .before .before .before .before .if1 .left) (done-ok _ _ _ _ _ _ _ _ (c .before .before .before .before .before .before .before .before .before .before .before .before .before .before .before .visit .ensures) (c .enum-told .given .1))
 
 same-length-9 : tie.Need-same-length-9
-same-length-9 c = c .before .before .before .before .before .before .before .before .before .before .before .before .before .before .before .visit .kept .1 .1 .1 .1 .0
+same-length-9 c = c .before .before .before .before .before .before .before .before .before .before .before .before .before .before .before .before .visit .kept .1 .1 .1 .1 .0
 
 same-length-10 : tie.Need-same-length-10
-same-length-10 c = c .before .before .before .before .before .before .before .before .before .before .before .before .before .before .before .visit .kept .1 .1 .1 .1 .1 .0
+same-length-10 c = c .before .before .before .before .before .before .before .before .before .before .before .before .before .before .before .before .visit .kept .1 .1 .1 .1 .1 .0
 
 same-length-11 : tie.Need-same-length-11
-same-length-11 c = c .before .before .before .before .before .before .before .before .before .before .before .before .before .before .before .visit .kept .1 .1 .1 .1 .1 .1 .0
+same-length-11 c = c .before .before .before .before .before .before .before .before .before .before .before .before .before .before .before .before .visit .kept .1 .1 .1 .1 .1 .1 .0
 
 same-length-12 : tie.Need-same-length-12
-same-length-12 c = c .before .before .before .before .before .before .before .before .before .before .before .before .before .before .before .visit .kept .1 .1 .1 .1 .1 .1 .1 .0
+same-length-12 c = c .before .before .before .before .before .before .before .before .before .before .before .before .before .before .before .before .visit .kept .1 .1 .1 .1 .1 .1 .1 .0
 
 same-length-13 : tie.Need-same-length-13
-same-length-13 c = c .before .before .before .before .before .before .before .before .before .before .before .before .before .before .before .visit .kept .1 .1 .1 .1 .1 .1 .1 .1 .0 ∙ c .before .before .before .before .before .before .before .before .before .before .before .before .before .before .before .before .before .before .before .before .before .before .before .before .before .before .before .before .before .before .before .pop .kept .0
+same-length-13 c = c .before .before .before .before .before .before .before .before .before .before .before .before .before .before .before .before .visit .kept .1 .1 .1 .1 .1 .1 .1 .1 .0 ∙ c .before .before .before .before .before .before .before .before .before .before .before .before .before .before .before .before .before .before .before .before .before .before .before .before .before .before .before .before .before .before .before .before .pop .kept .0
 
 same-length-14 : tie.Need-same-length-14
-same-length-14 c = c .before .before .before .before .before .before .before .before .before .before .before .before .before .before .before .visit .kept .1 .1 .1 .1 .1 .1 .1 .1 .1 .0 ∙ c .before .before .before .before .before .before .before .before .before .before .before .before .before .before .before .before .before .before .before .before .before .before .before .before .before .before .before .before .before .before .before .pop .kept .1 .0
+same-length-14 c = c .before .before .before .before .before .before .before .before .before .before .before .before .before .before .before .before .visit .kept .1 .1 .1 .1 .1 .1 .1 .1 .1 .0 ∙ c .before .before .before .before .before .before .before .before .before .before .before .before .before .before .before .before .before .before .before .before .before .before .before .before .before .before .before .before .before .before .before .before .pop .kept .1 .0
 
 returns-3 : tie.Need-returns-3
-returns-3 c = let a = c .before .before .before .before .before .before .before .before .before .before .before .before .before .before .before .before .before .before .before .before .before .before .before .before .before .before .before .before .before .before .before .before .before .before .before .before .before .before .before .before .before .before .before in let e = c .before .before .before .before .before .before .before .before .before .before .before .before .before .before .before .before .before .before .before .before .before .before .before .before .before .before .before .before .before .before .before .pop in let k = pop-known (a .pre .0) (a .pre .1 .1 .1 .1) (a .pre .1 .1 .1 .0) (a .pre .1 .1 .0) _ (e .ensures .0) in pop-go (yieldOf (tables (a .args .blocked .now) (a .args .neighbours .now) (a .args .forced .now) (a .args .goals .now)) (a .args .p)) (goalOf (a .args .goals .now) (a .args .p)) _ _ (view (a .args .number .now) (a .args .place .now) (a .args .parent .now) (a .args .cost .now) (a .args .keys .now) (a .args .idx .now) (a .args .m)) (view (a .args .number .now) (a .args .place .now) (a .args .parent .now) (a .args .cost .now) (e .last .0) (e .last .1 .0) (record { count = a .args .m .count; heap = a .args .m .heap - 1 })) (e .ensures .0) (c .before .before .before .before .before .before .before .before .before .before .before .before .before .before .before .before .before .before .before .before .before .before .before .before .before .cost-of .ensures) (pop-is (a .pre .0) (a .pre .1 .1 .1 .1) (a .pre .1 .1 .1 .0) (e .last .0) (e .last .1 .0) (e .ensures .1)) _ (ap (goalOf (a .args .goals .now) (a .args .p)) (getD-take (a .args .m .count) (a .args .place .now) (e .result .index) 0 (k .0)) ∙ sym (c .before .before .before .before .before .before .before .before .before .before .before .before .before .before .before .before .before .before .before .before .before .before .before .at-goal .ensures) ∙ c .before .before .before .before .before .before .before .before .before .before .before .before .before .before .before .before .before .before .before .before .before .before .if1 .left) (refused-no _ _ _ _ _ _ _ _ _ (c .before .before .before .before .before .before .before .before .before .before .before .before .before .before .before .visit .ensures) (c .before .r2 .given .1))
+returns-3 c = let a = c .before .before .before .before .before .before .before .before .before .before .before .before .before .before .before .before .before .before .before .before .before .before .before .before .before .before .before .before .before .before .before .before .before .before .before .before .before .before .before .before .before .before .before .before in let e = c .before .before .before .before .before .before .before .before .before .before .before .before .before .before .before .before .before .before .before .before .before .before .before .before .before .before .before .before .before .before .before .before .pop in let k = pop-known (a .pre .0) (a .pre .1 .1 .1 .1) (a .pre .1 .1 .1 .0) (a .pre .1 .1 .0) _ (e .ensures .0) in pop-go (yieldOf (tables (a .args .blocked .now) (a .args .neighbours .now) (a .args .forced .now) (a .args .goals .now)) (a .args .p)) (goalOf (a .args .goals .now) (a .args .p)) _ _ (view (a .args .number .now) (a .args .place .now) (a .args .parent .now) (a .args .cost .now) (a .args .keys .now) (a .args .idx .now) (a .args .m)) (view (a .args .number .now) (a .args .place .now) (a .args .parent .now) (a .args .cost .now) (e .last .0) (e .last .1 .0) (record { count = a .args .m .count; heap = a .args .m .heap - 1 })) (e .ensures .0) (c .before .before .before .before .before .before .before .before .before .before .before .before .before .before .before .before .before .before .before .before .before .before .before .before .before .before .cost-of .ensures) (pop-is (a .pre .0) (a .pre .1 .1 .1 .1) (a .pre .1 .1 .1 .0) (e .last .0) (e .last .1 .0) (e .ensures .1)) _ (ap (goalOf (a .args .goals .now) (a .args .p)) (getD-take (a .args .m .count) (a .args .place .now) (e .result .index) 0 (k .0)) ∙ sym (c .before .before .before .before .before .before .before .before .before .before .before .before .before .before .before .before .before .before .before .before .before .before .before .before .at-goal .ensures) ∙ c .before .before .before .before .before .before .before .before .before .before .before .before .before .before .before .before .before .before .before .before .before .before .before .if1 .left) (refused-no _ _ _ _ _ _ _ _ _ (c .before .before .before .before .before .before .before .before .before .before .before .before .before .before .before .before .visit .ensures) (c .before .fate .given .1))
 
 pub pop-one-spec : {M : Type 1} → statement M
 pop-one-spec =
@@ -114,8 +114,8 @@ pop-one-spec =
     same-length-2
     returns
     visit-requires
-    enum-known-r
-    enum-known-r-2
+    enum-told
+    enum-known-fate
     same-length-3
     same-length-4
     same-length-5
