@@ -1,0 +1,18 @@
+//! Links libboundary.a: of the folder that BARNSLING_LIB_DIR names, else the one that `rt staticlib boundary` writes.
+use std::path::Path;
+
+fn main() {
+    println!("cargo:rerun-if-env-changed=BARNSLING_LIB_DIR");
+    let folder = std::env::var("BARNSLING_LIB_DIR")
+        .unwrap_or_else(|_| concat!(env!("CARGO_MANIFEST_DIR"), "/../target/staticlib").into());
+    let archive = Path::new(&folder).join("libboundary.a");
+    if !archive.is_file() {
+        eprintln!("barnsling: there is no {}", archive.display());
+        eprintln!("barnsling: run `rt staticlib boundary` in the root of the repository (some minutes), or rust/test, which does so;");
+        eprintln!("barnsling: or set BARNSLING_LIB_DIR to a folder that has libboundary.a");
+        std::process::exit(1);
+    }
+    println!("cargo:rerun-if-changed={}", archive.display());
+    println!("cargo:rustc-link-search=native={folder}");
+    println!("cargo:rustc-link-lib=static=boundary");
+}

@@ -1,0 +1,87 @@
+//! Barnsling for Rust hosts: can this cart get there, and which way?
+//!
+//! Every call is proved to end, with no fault, on every input, and to answer what the written rules say. The proofs are
+//! of the archive `libboundary.a`, which this crate links; the crate itself lends it memory and names its answers.
+//!
+//! **The rule:** once the tables have been built ([`Grid::rebuild`]), a no between two different free cells is always
+//! true. A yes may be hopeful after a gate has shut, until the tables are built again.
+//!
+//! ```
+//! use barnsling::{Grid, Point, Refusal, Rooms};
+//!
+//! # fn main() -> Result<(), Box<dyn std::error::Error>> {
+//! // A floor of 5 by 3; a wall with one gate.
+//! let (west, gate, east) = (Point::new(0, 1), Point::new(2, 1), Point::new(4, 1));
+//! let mut floor = Grid::new(5, 3)?;
+//! floor.set(Point::new(2, 0), true)?;
+//! floor.set(Point::new(2, 2), true)?;
+//! floor.rebuild()?;
+//! assert!(floor.reachable(west, east)?);
+//!
+//! let mut rooms = Rooms::new();
+//! let route = floor.single_goal(&mut rooms, west, east)?;
+//! assert_eq!(route.waypoints.last(), Some(&east));
+//!
+//! // The gate shuts. The yes is hopeful now; the search finds out.
+//! floor.set(gate, true)?;
+//! assert!(floor.is_dirty() && floor.reachable(west, east)?);
+//! let no = floor.single_goal(&mut rooms, west, east).unwrap_err();
+//! assert_eq!(no.refusal, Refusal::Exhausted);
+//!
+//! // After an update the no is true, and the gate's opening is seen at once.
+//! floor.update()?;
+//! assert!(!floor.reachable(west, east)?);
+//! floor.set(gate, false)?;
+//! assert!(floor.reachable(west, east)?);
+//! # Ok(())
+//! # }
+//! ```
+//!
+//! A [`Grid`] owns its tables, [`Rooms`] the working room of searches. A host that keeps its own memory uses [`lent`],
+//! which has each call over slices. The crate needs `alloc` and no more of the standard library.
+#![no_std]
+#![deny(missing_docs)]
+#![deny(unsafe_code)]
+
+extern crate alloc;
+
+mod grid;
+mod ground;
+pub mod lent;
+mod point;
+mod raw;
+mod refusal;
+mod search;
+mod settings;
+mod tables;
+mod walks;
+
+pub use grid::Grid;
+pub use ground::{direction, distance, forced_mask, pruned_mask, scaled_distance};
+pub use point::Point;
+pub use refusal::Refusal;
+pub use search::{Rooms, Route, SearchError};
+pub use settings::{Limits, Settings};
+pub use tables::Tables;
+pub use walks::{check_route, route_text, waypoints_to_path};
+
+/// The longest side of a grid.
+///
+/// ```
+/// use barnsling::{Grid, Refusal, MOST_SIDE};
+/// assert!(Grid::new(MOST_SIDE, MOST_SIDE).is_ok());
+/// assert_eq!(Grid::new(MOST_SIDE + 1, 1), Err(Refusal::Size));
+/// ```
+pub const MOST_SIDE: usize = 64;
+
+/// The most goals of a search.
+///
+/// ```
+/// use barnsling::{Grid, Point, Refusal, Rooms, MOST_GOALS};
+/// let floor = Grid::new(2, 1).unwrap();
+/// let goals = [Point::new(0, 0); MOST_GOALS + 1];
+/// let mut rooms = Rooms::new();
+/// assert!(floor.multiple_goals(&mut rooms, goals[0], &goals[1..]).is_ok());
+/// assert_eq!(floor.multiple_goals(&mut rooms, goals[0], &goals).unwrap_err().refusal, Refusal::Goals);
+/// ```
+pub const MOST_GOALS: usize = 64;

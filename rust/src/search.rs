@@ -1,0 +1,254 @@
+//! Searches: which way a cart goes.
+use crate::lent::{self, Answer, Room};
+use crate::raw::{numbers, numbers_mut};
+use crate::{Grid, Point, Refusal, MOST_SIDE};
+use alloc::vec;
+use alloc::vec::Vec;
+use core::fmt;
+
+/// A way that was found.
+///
+/// ```
+/// use barnsling::{Grid, Point, Rooms, Route};
+/// let mut floor = Grid::new(3, 1).unwrap();
+/// floor.rebuild().unwrap();
+/// let route: Route = floor.single_goal(&mut Rooms::new(), Point::new(0, 0), Point::new(2, 0)).unwrap();
+/// assert_eq!(route.waypoints, [Point::new(0, 0), Point::new(1, 0), Point::new(2, 0)]);
+/// assert_eq!((route.pops, route.cost), (3, 140));
+/// ```
+#[derive(Clone, Debug, PartialEq, Eq)]
+pub struct Route {
+    /// The pops of the search.
+    pub pops: u32,
+    /// The search's own count for the way; a walk along it may cost more.
+    pub cost: u64,
+    /// The points at which the way may turn, from the start to the goal.
+    pub waypoints: Vec<Point>,
+}
+
+/// Why there is no route, and how long the search took to find out.
+///
+/// ```
+/// use barnsling::{Grid, Point, Refusal, Rooms};
+/// let floor = Grid::new(2, 1).unwrap();
+/// let no = floor.single_goal(&mut Rooms::new(), Point::new(0, 0), Point::new(1, 0)).unwrap_err();
+/// assert_eq!((no.refusal, no.pops), (Refusal::NoRoute, 0));
+/// assert_eq!(no.to_string(), "NO_ROUTE (4): the tables say that there is no way, after 0 pops");
+/// ```
+#[derive(Clone, Copy, Debug, PartialEq, Eq)]
+pub struct SearchError {
+    /// Why.
+    pub refusal: Refusal,
+    /// The pops of the search, 0 if it was refused before.
+    pub pops: u32,
+}
+
+impl fmt::Display for SearchError {
+    fn fmt(&self, f: &mut fmt::Formatter<'_>) -> fmt::Result {
+        write!(f, "{}, after {} pops", self.refusal, self.pops)
+    }
+}
+
+impl core::error::Error for SearchError {
+    fn source(&self) -> Option<&(dyn core::error::Error + 'static)> {
+        Some(&self.refusal)
+    }
+}
+
+impl From<SearchError> for Refusal {
+    fn from(e: SearchError) -> Refusal {
+        e.refusal
+    }
+}
+
+/// Working room of searches, and the room for their waypoints. Make it once and use it for every search of a thread.
+///
+/// ```
+/// use barnsling::{Grid, Point, Rooms};
+/// let mut floor = Grid::new(3, 3).unwrap();
+/// floor.rebuild().unwrap();
+/// let mut rooms = Rooms::new();
+/// for y in 0..3 {
+///     assert!(floor.single_goal(&mut rooms, Point::new(0, 0), Point::new(2, y)).is_ok());
+/// }
+/// ```
+#[derive(Clone, Debug)]
+pub struct Rooms {
+    number: Vec<u32>,
+    place: Vec<u32>,
+    parent: Vec<u32>,
+    cost: Vec<u64>,
+    keys: Vec<u64>,
+    idx: Vec<u32>,
+    out: Vec<Point>,
+}
+
+impl Rooms {
+    /// Enough for every search: about 213 kB.
+    ///
+    /// ```
+    /// assert_eq!(barnsling::Rooms::new().lend().out.len(), 8194);
+    /// ```
+    pub fn new() -> Rooms {
+        let cells = MOST_SIDE * MOST_SIDE;
+        Rooms::sized(cells, 8_192, cells + 1)
+    }
+
+    /// Enough for grids of so many cells, a fringe limit, and so many waypoints. A search refuses SETTING where the working
+    /// room is too short, and ROOM where the waypoints do not fit.
+    ///
+    /// ```
+    /// use barnsling::{Grid, Point, Refusal, Rooms};
+    /// let mut floor = Grid::new(3, 1).unwrap();
+    /// floor.rebuild().unwrap();
+    /// let (a, b) = (Point::new(0, 0), Point::new(2, 0));
+    /// let mut rooms = Rooms::sized(3, 16, 2);
+    /// assert_eq!(floor.single_goal(&mut rooms, a, b).unwrap_err().refusal, Refusal::Setting);
+    /// floor.settings_mut().limits.fringe = 16;
+    /// assert_eq!(floor.single_goal(&mut rooms, a, b).unwrap_err().refusal, Refusal::Room);
+    /// assert!(floor.single_goal(&mut Rooms::sized(3, 16, 3), a, b).is_ok());
+    /// ```
+    pub fn sized(cells: usize, fringe: usize, waypoints: usize) -> Rooms {
+        let places = cells + 1;
+        Rooms {
+            number: vec![0; places],
+            place: vec![0; places],
+            parent: vec![0; places],
+            cost: vec![0; places],
+            keys: vec![0; fringe],
+            idx: vec![0; fringe],
+            out: vec![Point::default(); waypoints],
+        }
+    }
+
+    /// The rooms, lent to a call of [`lent`].
+    ///
+    /// ```
+    /// assert_eq!(barnsling::Rooms::sized(4, 16, 3).lend().keys.len(), 16);
+    /// ```
+    pub fn lend(&mut self) -> Room<'_> {
+        Room {
+            number: &mut self.number,
+            place: &mut self.place,
+            parent: &mut self.parent,
+            cost: &mut self.cost,
+            keys: &mut self.keys,
+            idx: &mut self.idx,
+            out: numbers_mut(&mut self.out),
+        }
+    }
+
+    fn route(&self, a: Answer) -> Result<Route, SearchError> {
+        let pops = a.pops as u32;
+        if a.refusal != 0 {
+            let refusal = Refusal::of(a.refusal, Point::new(a.x, a.y));
+            return Err(SearchError { refusal, pops });
+        }
+        Ok(Route {
+            pops,
+            cost: a.cost,
+            waypoints: self.out[..a.waypoints as usize].to_vec(),
+        })
+    }
+}
+
+/// [`Rooms::new`].
+impl Default for Rooms {
+    fn default() -> Rooms {
+        Rooms::new()
+    }
+}
+
+impl Grid {
+    /// The way from a start to a goal.
+    ///
+    /// Refuses STATE, SETTING, POINT (start, then goal), NO_ROUTE where the tables say no, then EXHAUSTED, DEPTH, FRINGE,
+    /// POPS or SAME as the search meets them, and ROOM last. After a gate has shut, a hopeful yes ends in EXHAUSTED.
+    ///
+    /// ```
+    /// use barnsling::{Grid, Point, Rooms};
+    /// let mut floor = Grid::new(3, 2)?;
+    /// floor.set(Point::new(1, 0), true)?;
+    /// floor.rebuild()?;
+    /// let route = floor.single_goal(&mut Rooms::new(), Point::new(0, 0), Point::new(2, 0))?;
+    /// assert_eq!(route.waypoints, [Point::new(0, 0), Point::new(1, 1), Point::new(2, 0)]);
+    /// # Ok::<(), barnsling::Refusal>(())
+    /// ```
+    #[doc(alias = "get_waypoints_single_goal")]
+    pub fn single_goal(
+        &self,
+        rooms: &mut Rooms,
+        start: Point,
+        goal: Point,
+    ) -> Result<Route, SearchError> {
+        let a = lent::single_goal(
+            self.tables.cells(),
+            rooms.lend(),
+            &self.settings,
+            start,
+            goal,
+            false,
+        );
+        rooms.route(a)
+    }
+
+    /// The way from a start to a cell beside a goal, which may itself be blocked: to the first that is met whose distance
+    /// from the goal is at most 99. Refuses as [`single_goal`](Grid::single_goal) does.
+    ///
+    /// ```
+    /// use barnsling::{Grid, Point, Rooms};
+    /// let mut floor = Grid::new(4, 1)?;
+    /// floor.set(Point::new(3, 0), true)?;
+    /// floor.rebuild()?;
+    /// let route = floor.approximate_goal(&mut Rooms::new(), Point::new(0, 0), Point::new(3, 0))?;
+    /// assert_eq!(route.waypoints.last(), Some(&Point::new(2, 0)));
+    /// # Ok::<(), barnsling::Refusal>(())
+    /// ```
+    #[doc(alias = "get_waypoints_single_goal")]
+    pub fn approximate_goal(
+        &self,
+        rooms: &mut Rooms,
+        start: Point,
+        goal: Point,
+    ) -> Result<Route, SearchError> {
+        let a = lent::single_goal(
+            self.tables.cells(),
+            rooms.lend(),
+            &self.settings,
+            start,
+            goal,
+            true,
+        );
+        rooms.route(a)
+    }
+
+    /// The way from a start to the one of several goals that the search meets first. The components are not asked, so
+    /// a start outside the grid may search.
+    ///
+    /// Refuses STATE, SETTING, GOALS, POINT (start, then goals in order), then as [`single_goal`](Grid::single_goal) does, but never NO_ROUTE.
+    ///
+    /// ```
+    /// use barnsling::{Grid, Point, Rooms};
+    /// let floor = Grid::new(9, 1)?;
+    /// let goals = [Point::new(8, 0), Point::new(2, 0)];
+    /// let route = floor.multiple_goals(&mut Rooms::new(), Point::new(4, 0), &goals)?;
+    /// assert_eq!(route.waypoints.last(), Some(&Point::new(2, 0)));
+    /// # Ok::<(), barnsling::Refusal>(())
+    /// ```
+    #[doc(alias = "get_waypoints_multiple_goals")]
+    pub fn multiple_goals(
+        &self,
+        rooms: &mut Rooms,
+        start: Point,
+        goals: &[Point],
+    ) -> Result<Route, SearchError> {
+        let a = lent::multiple_goals(
+            self.tables.cells(),
+            rooms.lend(),
+            &self.settings,
+            start,
+            numbers(goals),
+        );
+        rooms.route(a)
+    }
+}

@@ -1,0 +1,137 @@
+//! Paths, route checks, map texts, and the masks of a grid's cells.
+use crate::raw::{numbers, numbers_mut};
+use crate::refusal::value;
+use crate::{lent, Grid, Point, Refusal, Route};
+use alloc::string::String;
+use alloc::vec;
+use alloc::vec::Vec;
+
+fn replied(r: lent::Reply) -> Result<usize, Refusal> {
+    if r.refusal != 0 {
+        return Err(Refusal::of(r.refusal, Point::new(r.x, r.y)));
+    }
+    Ok(r.value as usize)
+}
+
+/// Every point on the way along a waypoint list, written to the front of a room; the rest of it is kept. How many there are.
+///
+/// The grid is not looked at. Refuses LIST, POINT, ROOM; then nothing is written.
+///
+/// ```
+/// use barnsling::{waypoints_to_path, Point, Refusal};
+/// let list = [Point::new(0, 0), Point::new(3, 1)];
+/// let mut room = [Point::default(); 9];
+/// let n = waypoints_to_path(&list, &mut room)?;
+/// assert_eq!(room[..n], [Point::new(0, 0), Point::new(1, 1), Point::new(2, 1), Point::new(3, 1)]);
+/// assert_eq!(waypoints_to_path(&list, &mut room[..3]), Err(Refusal::Room));
+/// assert_eq!(waypoints_to_path(&[], &mut room), Err(Refusal::List));
+/// # Ok::<(), Refusal>(())
+/// ```
+pub fn waypoints_to_path(list: &[Point], room: &mut [Point]) -> Result<usize, Refusal> {
+    replied(lent::waypoints_to_path(numbers(list), numbers_mut(room)))
+}
+
+/// Whether every point of a list after the first is inside the grid and free. Refuses STATE, LIST, POINT.
+///
+/// It looks at the points of the list and at nothing between them: for every cell on the way, check [`Route::path`].
+///
+/// ```
+/// use barnsling::{check_route, Grid, Point, Refusal};
+/// let mut floor = Grid::new(3, 1)?;
+/// let list = [Point::new(0, 0), Point::new(2, 0)];
+/// assert_eq!(check_route(&floor, &list), Ok(true));
+/// floor.set(list[1], true)?;
+/// assert_eq!(check_route(&floor, &list), Ok(false));
+/// # Ok::<(), Refusal>(())
+/// ```
+pub fn check_route(grid: &Grid, list: &[Point]) -> Result<bool, Refusal> {
+    replied(lent::check_route(grid.tables.cells(), numbers(list))).map(|v| v != 0)
+}
+
+/// What the program `route` prints for a map text. Refuses MAP with the line, where `route` prints `result=12` and the line.
+///
+/// ```
+/// use barnsling::{route_text, Refusal};
+/// let text = "width=3\nheight=1\ndiagonal=1\nstart=0,0\ngoal=2,0\nrow=.#.\n";
+/// assert_eq!(route_text(text.as_bytes())?, "result=4\npops=0\nwaypoints=0\nclear=0\n");
+/// assert_eq!(route_text(b"width=3\nheight=0\n"), Err(Refusal::Map(2)));
+/// # Ok::<(), Refusal>(())
+/// ```
+pub fn route_text(text: &[u8]) -> Result<String, Refusal> {
+    let mut printed = vec![0; lent::TEXT_ROOM];
+    let none = Point::default();
+    let n = value(lent::route_text(text, &mut printed), none, none)?;
+    printed.truncate(n as usize);
+    let printed = String::from_utf8(printed).expect("route prints ASCII");
+    match printed.strip_prefix("result=12\nline=") {
+        Some(line) => Err(Refusal::Map(
+            line.trim_end().parse().expect("a line number"),
+        )),
+        None => Ok(printed),
+    }
+}
+
+impl Route {
+    /// Every point on the way, from the start to the goal: [`waypoints_to_path`] with room made as needed.
+    ///
+    /// ```
+    /// use barnsling::{Grid, Point, Rooms};
+    /// let mut floor = Grid::new(9, 9)?;
+    /// floor.rebuild()?;
+    /// let route = floor.single_goal(&mut Rooms::new(), Point::new(0, 0), Point::new(8, 8))?;
+    /// let path = route.path()?;
+    /// assert_eq!(path.len(), 9);
+    /// assert_eq!(path[4], Point::new(4, 4));
+    /// # Ok::<(), barnsling::Refusal>(())
+    /// ```
+    pub fn path(&self) -> Result<Vec<Point>, Refusal> {
+        let mut room = vec![Point::default(); 256];
+        loop {
+            match waypoints_to_path(&self.waypoints, &mut room) {
+                Ok(n) => {
+                    room.truncate(n);
+                    return Ok(room);
+                }
+                Err(Refusal::Room) => room.resize(2 * room.len(), Point::default()),
+                Err(r) => return Err(r),
+            }
+        }
+    }
+}
+
+/// The masks of a cell; bit d stands for direction d.
+impl Grid {
+    /// Which neighbours of a cell are inside and free. Refuses STATE, then POINT.
+    ///
+    /// ```
+    /// use barnsling::{Grid, Point};
+    /// assert_eq!(Grid::new(3, 3)?.neighbour_mask(Point::new(1, 1)), Ok(255));
+    /// # Ok::<(), barnsling::Refusal>(())
+    /// ```
+    pub fn neighbour_mask(&self, at: Point) -> Result<u8, Refusal> {
+        value(lent::neighbours_at(self.tables.cells(), at), at, at).map(|m| m as u8)
+    }
+
+    /// A cell's forced directions. Refuses STATE, then POINT.
+    ///
+    /// ```
+    /// use barnsling::{Grid, Point};
+    /// assert_eq!(Grid::new(3, 3)?.forced_mask(Point::new(1, 1)), Ok(0));
+    /// # Ok::<(), barnsling::Refusal>(())
+    /// ```
+    pub fn forced_mask(&self, at: Point) -> Result<u8, Refusal> {
+        value(lent::forced_at(self.tables.cells(), at), at, at).map(|m| m as u8)
+    }
+
+    /// The directions that a search follows from a cell, having come to it in a direction (read modulo 8). Refuses STATE, then POINT.
+    ///
+    /// ```
+    /// use barnsling::{Grid, Point};
+    /// assert_eq!(Grid::new(3, 3)?.pruned_mask(Point::new(1, 1), 1), Ok(7));
+    /// # Ok::<(), barnsling::Refusal>(())
+    /// ```
+    pub fn pruned_mask(&self, at: Point, direction: u8) -> Result<u8, Refusal> {
+        let answer = lent::pruned_at(self.tables.cells(), self.settings.diagonal, at, direction);
+        value(answer, at, at).map(|m| m as u8)
+    }
+}

@@ -1,0 +1,111 @@
+//! Paths, route checks, map texts and the masks of a cell, with their refusals.
+use barnsling::*;
+
+fn at(x: i32, y: i32) -> Point {
+    Point::new(x, y)
+}
+
+#[test]
+fn paths() {
+    let mut room = [at(-7, -7); 8];
+    assert_eq!(waypoints_to_path(&[at(2, 2)], &mut room), Ok(1));
+    assert_eq!(room[..2], [at(2, 2), at(-7, -7)]);
+    assert_eq!(
+        waypoints_to_path(&[at(0, 0), at(1, 3), at(1, 3), at(0, 3)], &mut room),
+        Ok(5)
+    );
+    assert_eq!(
+        room[..6],
+        [at(0, 0), at(1, 1), at(1, 2), at(1, 3), at(0, 3), at(-7, -7)]
+    );
+    let before = room;
+    assert_eq!(waypoints_to_path(&[], &mut room), Err(Refusal::List));
+    assert_eq!(
+        waypoints_to_path(&[at(0, 0), at(0, 1024), at(-1025, 0)], &mut room[..0]),
+        Err(Refusal::BadPoint(at(0, 1024)))
+    );
+    assert_eq!(
+        waypoints_to_path(&[at(0, 0), at(8, 0)], &mut room),
+        Err(Refusal::Room)
+    );
+    assert_eq!(room, before);
+    assert_eq!(lent::waypoints_to_path(&[0, 0, 1], &mut [0; 9]).refusal, 13);
+    // longer than the first room that is made
+    let long = Route {
+        pops: 0,
+        cost: 0,
+        waypoints: vec![at(-1024, 0), at(1023, 0), at(-1024, 9)],
+    };
+    assert_eq!(long.path().unwrap().len(), 4095);
+}
+
+#[test]
+fn checks() {
+    let mut floor = Grid::new(3, 2).unwrap();
+    let list = [at(0, 0), at(1, 1), at(2, 0)];
+    assert_eq!(check_route(&floor, &list), Ok(true));
+    floor.set(at(0, 0), true).unwrap();
+    assert_eq!(check_route(&floor, &list), Ok(true));
+    floor.set(at(1, 1), true).unwrap();
+    assert_eq!(check_route(&floor, &list), Ok(false));
+    assert_eq!(check_route(&floor, &[at(5, 5)]), Ok(true));
+    assert_eq!(check_route(&floor, &[at(0, 0), at(3, 0)]), Ok(false));
+    assert_eq!(check_route(&floor, &[]), Err(Refusal::List));
+    assert_eq!(
+        check_route(&floor, &[at(0, 1024)]),
+        Err(Refusal::BadPoint(at(0, 1024)))
+    );
+    let mut tables = floor.into_tables();
+    tables.rank[0] = 201;
+    assert_eq!(
+        check_route(&Grid::from_tables(tables), &[]),
+        Err(Refusal::State)
+    );
+}
+
+#[test]
+fn masks() {
+    let mut floor = Grid::new(3, 3).unwrap();
+    floor.set(at(1, 0), true).unwrap();
+    assert_eq!(floor.neighbour_mask(at(1, 1)), Ok(254));
+    assert_eq!(floor.forced_mask(at(1, 1)), Ok(108));
+    for d in 0..16 {
+        assert_eq!(
+            floor.pruned_mask(at(1, 1), d),
+            Ok(pruned_mask(true, d, 254))
+        );
+    }
+    floor.settings_mut().diagonal = false;
+    assert_eq!(
+        floor.pruned_mask(at(1, 1), 2),
+        Ok(pruned_mask(false, 2, 254))
+    );
+    let no = Refusal::BadPoint(at(3, 0));
+    assert_eq!(floor.neighbour_mask(at(3, 0)), Err(no));
+    assert_eq!(floor.forced_mask(at(3, 0)), Err(no));
+    assert_eq!(floor.pruned_mask(at(3, 0), 2), Err(no));
+    let floor = Grid::from_tables(Tables::default());
+    assert_eq!(floor.neighbour_mask(at(3, 0)), Err(Refusal::State));
+    assert_eq!(floor.forced_mask(at(3, 0)), Err(Refusal::State));
+    assert_eq!(floor.pruned_mask(at(3, 0), 2), Err(Refusal::State));
+}
+
+#[test]
+fn texts() {
+    let text = "width=3\nheight=1\ndiagonal=1\nstart=0,0\ngoal=2,0\nrow=...\n";
+    let printed = "result=0\npops=3\nwaypoints=3\nclear=1\npoint=0,0\npoint=1,0\npoint=2,0\n";
+    assert_eq!(route_text(text.as_bytes()).as_deref(), Ok(printed));
+    for (line, bad) in [(1, "x"), (6, ".#"), (6, "...."), (7, "...\nrow=...")] {
+        let bad = if line == 1 {
+            text.replace("width", bad)
+        } else {
+            text.replace("...", bad)
+        };
+        assert_eq!(route_text(bad.as_bytes()), Err(Refusal::Map(line)));
+    }
+    assert_eq!(route_text(&[b'x'; 8_193]), Err(Refusal::Map(0)));
+    assert_eq!(
+        lent::route_text(text.as_bytes(), &mut [0; 82_099]),
+        10 << 32
+    );
+}
