@@ -1,7 +1,9 @@
-//! Links the archive that `rt staticlib boundary` writes.
+//! Links, for the times, the archive that `rt staticlib bench` writes. The crate `rust/` links the other one.
 fn main() {
     let archive = concat!(env!("CARGO_MANIFEST_DIR"), "/../target/staticlib");
-    println!("cargo:rustc-link-search=native={archive}");
-    println!("cargo:rustc-link-lib=static=boundary");
-    println!("cargo:rerun-if-changed={archive}/libboundary.a");
+    if std::env::var_os("CARGO_FEATURE_BENCH").is_some() {
+        println!("cargo:rustc-link-search=native={archive}");
+        println!("cargo:rustc-link-lib=static=bench");
+        println!("cargo:rerun-if-changed={archive}/libbench.a");
+    }
 }

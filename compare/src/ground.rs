@@ -1,5 +1,7 @@
 //! Masks, directions and distances.
-use crate::{boundary, Tally};
+use crate::lent::at;
+use crate::Tally;
+use barnsling::lent;
 use tools::ground::{
     any_factor, any_point, distance, forced, heading, pruned, refused_factors, scaled, REFUSED,
 };
@@ -21,13 +23,13 @@ fn unpacked(v: u64) -> u32 {
 pub fn masks(_: u64, _: &mut Rng) -> Tally {
     let mut t = Tally::default();
     for m in 0..=255 {
-        t.hold(forced(m), boundary::forced_mask(m), || {
+        t.hold(forced(m), lent::forced_mask(m), || {
             format!("forced {m}")
         });
         for d in 0..=255u8 {
             for diagonal in [false, true] {
                 let rust = pruned(diagonal, d as i32 % 8, m);
-                let ours = boundary::pruned_mask(diagonal, d, m);
+                let ours = lent::pruned_mask(diagonal, d, m);
                 t.hold(rust, ours, || format!("pruned {diagonal} {d} {m}"));
             }
         }
@@ -38,7 +40,7 @@ pub fn directions(count: u64, r: &mut Rng) -> Tally {
     let mut t = Tally::default();
     for _ in 0..count {
         let (a, b) = (any_point(r), any_point(r));
-        t.hold(heading(a, b), unpacked(boundary::direction(a, b)), || {
+        t.hold(heading(a, b), unpacked(lent::direction(at(a), at(b))), || {
             format!("{a:?} {b:?}")
         });
     }
@@ -48,7 +50,7 @@ pub fn distances(count: u64, r: &mut Rng) -> Tally {
     let mut t = Tally::default();
     for _ in 0..count {
         let (a, b, diagonal) = (any_point(r), any_point(r), r.pct(50));
-        let ours = unpacked(boundary::distance(diagonal, a, b));
+        let ours = unpacked(lent::distance(diagonal, at(a), at(b)));
         t.hold(distance(diagonal, a, b), ours, || {
             format!("{diagonal} {a:?} {b:?}")
         });
@@ -57,7 +59,7 @@ pub fn distances(count: u64, r: &mut Rng) -> Tally {
         } else {
             any_factor(r)
         };
-        let ours = unpacked(boundary::scaled_distance(factor, diagonal, a, b));
+        let ours = unpacked(lent::scaled_distance(diagonal, factor, at(a), at(b)));
         t.hold(scaled(diagonal, a, b, factor), ours, || {
             format!("{diagonal} {a:?} {b:?} {factor:?}")
         });

@@ -1,39 +1,17 @@
 //! Tables and rooms lent to the archive, with guards beyond what it may write.
+use barnsling::lent::{self, Cells, CellsMut, Links, LinksMut};
 use grid_util::point::Point;
-use tools::judge::{Answer, Ask, Tables, APPROXIMATE, SEVERAL};
+use tools::judge::Tables;
+#[cfg(feature = "searches")]
+use tools::judge::{Answer, Ask, APPROXIMATE, SEVERAL};
 use tools::Rng;
 
 pub const SIZE: u64 = 1 << 32;
 pub const STATE: u64 = 2 << 32;
 pub const POINT: u64 = 14 << 32;
 
-mod raw {
-    #[repr(C)]
-    pub struct Route {
-        pub refusal: u64,
-        pub pops: u64,
-        pub waypoints: u64,
-        pub cost: u64,
-        pub x: i32,
-        pub y: i32,
-    }
-    extern "C" {
-        pub fn barnsling_single_goal(b: *const u8, bn: usize, e: *const u8, en: usize, f: *const u8, fnn: usize, p: *const u16, pn: usize, k: *const u8, kn: usize,
-            number: *mut u32, nn: usize, place: *mut u32, pln: usize, parent: *mut u32, pan: usize, cost: *mut u64, cn: usize, keys: *mut u64, ken: usize, idx: *mut u32, inn: usize, out: *mut i32, on: usize,
-            w: usize, h: usize, factor: f32, diagonal: u8, improved: u8, depth: usize, pops: usize, fringe: usize, sx: i32, sy: i32, gx: i32, gy: i32, approximate: u8) -> Route;
-        pub fn barnsling_multiple_goals(b: *const u8, bn: usize, e: *const u8, en: usize, f: *const u8, fnn: usize, p: *const u16, pn: usize, k: *const u8, kn: usize, goals: *const i32, gn: usize,
-            number: *mut u32, nn: usize, place: *mut u32, pln: usize, parent: *mut u32, pan: usize, cost: *mut u64, cn: usize, keys: *mut u64, ken: usize, idx: *mut u32, inn: usize, out: *mut i32, on: usize,
-            w: usize, h: usize, factor: f32, diagonal: u8, improved: u8, depth: usize, pops: usize, fringe: usize, sx: i32, sy: i32) -> Route;
-        pub fn barnsling_new(b: *mut u8, bn: usize, e: *mut u8, en: usize, f: *mut u8, fnn: usize, p: *mut u16, pn: usize, k: *mut u8, kn: usize, w: usize, h: usize) -> u64;
-        pub fn barnsling_set(b: *mut u8, bn: usize, e: *mut u8, en: usize, f: *mut u8, fnn: usize, p: *mut u16, pn: usize, k: *mut u8, kn: usize, w: usize, h: usize, diagonal: u8, dirty: u8, x: i32, y: i32, blocked: u8) -> u64;
-        pub fn barnsling_rebuild(b: *const u8, bn: usize, p: *mut u16, pn: usize, k: *mut u8, kn: usize, w: usize, h: usize, diagonal: u8) -> u64;
-        pub fn barnsling_update(b: *const u8, bn: usize, p: *mut u16, pn: usize, k: *mut u8, kn: usize, w: usize, h: usize, diagonal: u8, dirty: u8) -> u64;
-        pub fn barnsling_component(p: *const u16, pn: usize, k: *const u8, kn: usize, w: usize, h: usize, x: i32, y: i32) -> u64;
-        pub fn barnsling_reachable(p: *const u16, pn: usize, k: *const u8, kn: usize, w: usize, h: usize, sx: i32, sy: i32, gx: i32, gy: i32) -> u64;
-        pub fn barnsling_unreachable(p: *const u16, pn: usize, k: *const u8, kn: usize, w: usize, h: usize, sx: i32, sy: i32, gx: i32, gy: i32) -> u64;
-        pub fn barnsling_neighbours_reachable(p: *const u16, pn: usize, k: *const u8, kn: usize, w: usize, h: usize, diagonal: u8, sx: i32, sy: i32, gx: i32, gy: i32) -> u64;
-        pub fn barnsling_neighbours_unreachable(p: *const u16, pn: usize, k: *const u8, kn: usize, w: usize, h: usize, diagonal: u8, sx: i32, sy: i32, gx: i32, gy: i32) -> u64;
-    }
+pub fn at(p: Point) -> barnsling::Point {
+    barnsling::Point::new(p.x, p.y)
 }
 
 const GUARD: usize = 4;
@@ -48,7 +26,7 @@ pub struct Lent {
     pub parent: Vec<u16>,
     pub rank: Vec<u8>,
     /// how many entries of each table are lent
-    len: [usize; 5],
+    pub len: [usize; 5],
     cells: usize,
 }
 impl Lent {
@@ -114,96 +92,136 @@ impl Lent {
             rank: self.rank[..n].to_vec(),
         }
     }
-    pub fn new_grid(&mut self) -> u64 {
+    pub fn cells(&self) -> Cells<'_> {
         let l = self.len;
-        let v = unsafe { raw::barnsling_new(self.blocked.as_mut_ptr(), l[0], self.neighbours.as_mut_ptr(), l[1], self.forced.as_mut_ptr(), l[2], self.parent.as_mut_ptr(), l[3], self.rank.as_mut_ptr(), l[4], self.w, self.h) };
-        if v == 0 {
-            self.dirty = false;
+        Cells {
+            width: self.w,
+            height: self.h,
+            blocked: &self.blocked[..l[0]],
+            neighbours: &self.neighbours[..l[1]],
+            forced: &self.forced[..l[2]],
+            parent: &self.parent[..l[3]],
+            rank: &self.rank[..l[4]],
         }
-        v
     }
-    pub fn set(&mut self, diagonal: bool, p: Point, b: bool) -> u64 {
+    fn cells_mut(&mut self) -> CellsMut<'_> {
         let l = self.len;
-        let v = unsafe { raw::barnsling_set(self.blocked.as_mut_ptr(), l[0], self.neighbours.as_mut_ptr(), l[1], self.forced.as_mut_ptr(), l[2], self.parent.as_mut_ptr(), l[3], self.rank.as_mut_ptr(), l[4], self.w, self.h, diagonal as u8, self.dirty as u8, p.x, p.y, b as u8) };
+        CellsMut {
+            width: self.w,
+            height: self.h,
+            blocked: &mut self.blocked[..l[0]],
+            neighbours: &mut self.neighbours[..l[1]],
+            forced: &mut self.forced[..l[2]],
+            parent: &mut self.parent[..l[3]],
+            rank: &mut self.rank[..l[4]],
+        }
+    }
+    fn links(&self) -> Links<'_> {
+        let Cells { width, height, parent, rank, .. } = self.cells();
+        Links { width, height, parent, rank }
+    }
+    fn links_mut(&mut self) -> LinksMut<'_> {
+        let CellsMut { width, height, blocked, parent, rank, .. } = self.cells_mut();
+        LinksMut { width, height, blocked, parent, rank }
+    }
+    /// Keeps the dirty mark that a call answers.
+    fn marked(&mut self, v: u64) -> u64 {
         if v < 2 {
             self.dirty = v == 1;
         }
         v
     }
+    pub fn new_grid(&mut self) -> u64 {
+        let v = lent::new(self.cells_mut());
+        self.marked(v)
+    }
+    pub fn set(&mut self, diagonal: bool, p: Point, b: bool) -> u64 {
+        let dirty = self.dirty;
+        let v = lent::set(self.cells_mut(), diagonal, dirty, at(p), b);
+        self.marked(v)
+    }
     pub fn rebuild(&mut self, diagonal: bool) -> u64 {
-        let l = self.len;
-        let v = unsafe { raw::barnsling_rebuild(self.blocked.as_ptr(), l[0], self.parent.as_mut_ptr(), l[3], self.rank.as_mut_ptr(), l[4], self.w, self.h, diagonal as u8) };
-        if v == 0 {
-            self.dirty = false;
-        }
-        v
+        let v = lent::rebuild(self.links_mut(), diagonal);
+        self.marked(v)
     }
     pub fn update(&mut self, diagonal: bool) -> u64 {
-        let l = self.len;
-        let v = unsafe { raw::barnsling_update(self.blocked.as_ptr(), l[0], self.parent.as_mut_ptr(), l[3], self.rank.as_mut_ptr(), l[4], self.w, self.h, diagonal as u8, self.dirty as u8) };
-        if v == 0 {
-            self.dirty = false;
-        }
-        v
+        let dirty = self.dirty;
+        let v = lent::update(self.links_mut(), diagonal, dirty);
+        self.marked(v)
     }
     pub fn component(&self, p: Point) -> u64 {
-        unsafe { raw::barnsling_component(self.parent.as_ptr(), self.len[3], self.rank.as_ptr(), self.len[4], self.w, self.h, p.x, p.y) }
+        lent::component(self.links(), at(p))
     }
     pub fn reachable(&self, s: Point, g: Point) -> u64 {
-        unsafe { raw::barnsling_reachable(self.parent.as_ptr(), self.len[3], self.rank.as_ptr(), self.len[4], self.w, self.h, s.x, s.y, g.x, g.y) }
+        lent::reachable(self.links(), at(s), at(g))
     }
     pub fn questions(&self, diagonal: bool, s: Point, g: Point) -> [u64; 4] {
-        let (p, pn, k, kn, w, h, d) = (self.parent.as_ptr(), self.len[3], self.rank.as_ptr(), self.len[4], self.w, self.h, diagonal as u8);
-        unsafe {
-            [
-                self.reachable(s, g),
-                raw::barnsling_unreachable(p, pn, k, kn, w, h, s.x, s.y, g.x, g.y),
-                raw::barnsling_neighbours_reachable(p, pn, k, kn, w, h, d, s.x, s.y, g.x, g.y),
-                raw::barnsling_neighbours_unreachable(p, pn, k, kn, w, h, d, s.x, s.y, g.x, g.y),
-            ]
-        }
+        let (t, s, g) = (self.links(), at(s), at(g));
+        [
+            lent::reachable(t, s, g),
+            lent::unreachable(t, s, g),
+            lent::neighbours_reachable(t, diagonal, s, g),
+            lent::neighbours_unreachable(t, diagonal, s, g),
+        ]
     }
 }
 
-/// Working room and output for searches.
+/// Working room and output for searches, with guards past what is lent of them.
 #[cfg(feature = "searches")]
 pub struct Rooms {
-    number: Vec<u32>,
-    place: Vec<u32>,
-    parent: Vec<u32>,
-    cost: Vec<u64>,
-    keys: Vec<u64>,
-    idx: Vec<u32>,
+    pub number: Vec<u32>,
+    pub place: Vec<u32>,
+    pub parent: Vec<u32>,
+    pub cost: Vec<u64>,
+    pub keys: Vec<u64>,
+    pub idx: Vec<u32>,
     pub out: Vec<i32>,
 }
+#[cfg(feature = "searches")]
+const PLACES: usize = 4097;
+#[cfg(feature = "searches")]
+const FRINGE: usize = 8192;
 #[cfg(feature = "searches")]
 impl Rooms {
     pub fn new() -> Rooms {
         Rooms {
-            number: vec![7; 4097],
-            place: vec![7; 4097],
-            parent: vec![7; 4097],
-            cost: vec![7; 4097],
-            keys: vec![7; 8192],
-            idx: vec![7; 8192],
+            number: vec![7; PLACES + GUARD],
+            place: vec![7; PLACES + GUARD],
+            parent: vec![7; PLACES + GUARD],
+            cost: vec![7; PLACES + GUARD],
+            keys: vec![7; FRINGE + GUARD],
+            idx: vec![7; FRINGE + GUARD],
             out: vec![-7; 8200],
+        }
+    }
+    fn lend(&mut self, numbers: usize) -> lent::Room<'_> {
+        lent::Room {
+            number: &mut self.number[..PLACES],
+            place: &mut self.place[..PLACES],
+            parent: &mut self.parent[..PLACES],
+            cost: &mut self.cost[..PLACES],
+            keys: &mut self.keys[..FRINGE],
+            idx: &mut self.idx[..FRINGE],
+            out: &mut self.out[..numbers],
+        }
+    }
+    fn guards_hold(&self) {
+        for v in [&self.number[PLACES..], &self.place[PLACES..], &self.parent[PLACES..], &self.idx[FRINGE..]] {
+            assert!(v.iter().all(|n| *n == 7), "working room written past its end");
+        }
+        for v in [&self.cost[PLACES..], &self.keys[FRINGE..]] {
+            assert!(v.iter().all(|n| *n == 7), "working room written past its end");
         }
     }
     /// A search on lent tables, as it comes back; numbers is how many of the output are lent.
     pub fn route(&mut self, l: &Lent, a: &Ask, goals: &[i32], numbers: usize) -> (u8, Point, u32, i32, usize) {
-        let n = l.len;
-        let (d, i) = (a.diagonal as u8, a.improved as u8);
-        let (depth, pops, fringe) = (a.limits.depth as usize, a.limits.pops as usize, a.limits.fringe);
-        let r = unsafe {
-            if a.kind == SEVERAL {
-                raw::barnsling_multiple_goals(l.blocked.as_ptr(), n[0], l.neighbours.as_ptr(), n[1], l.forced.as_ptr(), n[2], l.parent.as_ptr(), n[3], l.rank.as_ptr(), n[4], goals.as_ptr(), goals.len(),
-                    self.number.as_mut_ptr(), 4097, self.place.as_mut_ptr(), 4097, self.parent.as_mut_ptr(), 4097, self.cost.as_mut_ptr(), 4097, self.keys.as_mut_ptr(), 8192, self.idx.as_mut_ptr(), 8192, self.out.as_mut_ptr(), numbers,
-                    l.w, l.h, a.factor, d, i, depth, pops, fringe, a.start.x, a.start.y)
-            } else {
-                raw::barnsling_single_goal(l.blocked.as_ptr(), n[0], l.neighbours.as_ptr(), n[1], l.forced.as_ptr(), n[2], l.parent.as_ptr(), n[3], l.rank.as_ptr(), n[4],
-                    self.number.as_mut_ptr(), 4097, self.place.as_mut_ptr(), 4097, self.parent.as_mut_ptr(), 4097, self.cost.as_mut_ptr(), 4097, self.keys.as_mut_ptr(), 8192, self.idx.as_mut_ptr(), 8192, self.out.as_mut_ptr(), numbers,
-                    l.w, l.h, a.factor, d, i, depth, pops, fringe, a.start.x, a.start.y, goals[0], goals[1], (a.kind == APPROXIMATE) as u8)
-            }
+        let limits = barnsling::Limits { depth: a.limits.depth as usize, pops: a.limits.pops as usize, fringe: a.limits.fringe };
+        let s = barnsling::Settings { factor: a.factor, diagonal: a.diagonal, improved: a.improved, limits };
+        let r = if a.kind == SEVERAL {
+            lent::multiple_goals(l.cells(), self.lend(numbers), &s, at(a.start), goals)
+        } else {
+            let goal = barnsling::Point::new(goals[0], goals[1]);
+            lent::single_goal(l.cells(), self.lend(numbers), &s, at(a.start), goal, a.kind == APPROXIMATE)
         };
         (r.refusal as u8, Point::new(r.x, r.y), r.pops as u32, r.cost as i32, r.waypoints as usize)
     }
@@ -217,6 +235,7 @@ impl Rooms {
         let points = self.out[..2 * waypoints].chunks(2).map(|c| Point::new(c[0], c[1])).collect();
         self.out[..2 * waypoints].fill(-7);
         assert!(self.out.iter().all(|v| *v == -7), "output written beyond the waypoints");
+        self.guards_hold();
         Answer { result, point, pops, cost, points }
     }
 }

@@ -1,13 +1,16 @@
-//! compare SEED COUNT: the archive and the Rust on the same inputs, in one process.
+//! compare SEED GROUND STEPS SEARCHES TEXTS: the archive and the Rust on the same inputs, in one process.
 //!
 //! Prints a count for each kind and the differences, the first few of them whole. Exits with 1 if there is one.
+#[cfg(feature = "bench")]
 mod bench;
-mod boundary;
 mod ground;
+#[cfg(feature = "bench")]
+mod inner;
 mod lent;
 #[cfg(feature = "searches")]
 mod searches;
 mod tables;
+mod walks;
 
 /// What was compared, and what differed.
 #[derive(Default)]
@@ -50,12 +53,18 @@ impl Tally {
 
 fn main() {
     let words: Vec<String> = std::env::args().skip(1).collect();
+    #[cfg(feature = "bench")]
     if words.first().map(|s| s.as_str()) == Some("bench") {
         bench::run();
         return;
     }
+    #[cfg(feature = "bench")]
+    if let ["once", kind, diagonal, who] = words.iter().map(|s| s.as_str()).collect::<Vec<_>>()[..] {
+        bench::once(kind.parse().unwrap(), diagonal == "1", who.parse().unwrap());
+        return;
+    }
     let a: Vec<u64> = words.iter().map(|s| s.parse().expect("a number")).collect();
-    assert_eq!(a.len(), 4, "compare SEED GROUND STEPS SEARCHES");
+    assert_eq!(a.len(), 5, "compare SEED GROUND STEPS SEARCHES TEXTS");
     let mut r = tools::Rng(a[0]);
     let kinds: Vec<(&str, fn(u64, &mut tools::Rng) -> Tally, u64)> = vec![
         ("masks", ground::masks, a[1]),
@@ -65,6 +74,10 @@ fn main() {
         ("refused tables", tables::refusals, a[2] / 10),
         #[cfg(feature = "searches")]
         ("searches", searches::searches, a[3]),
+        ("paths", walks::paths, a[2] / 10),
+        ("route checks", walks::checks, a[2] / 10),
+        ("masks of cells", walks::masks_of_cells, a[2] / 10),
+        ("texts", walks::texts, a[4]),
     ];
     let mut differences = 0;
     for (name, run, count) in kinds {
