@@ -42,7 +42,7 @@ fn replay(s: &[u8]) -> u64 {
     }
     let text = &s[from..to];
     let mut out = [0u8; router::PRINT];
-    let k = router::route(text, &mut out);
+    let k = router::route_text(text, &mut out);
     let want = &s[to..];
     std::num::wrapping_add_u64(unlike(want, &out[..k]), rewritten(text))
 }

@@ -6,7 +6,7 @@ fn main() {
     let mut text = [0u8; 8193];
     let n = io::read_full(STDIN_FILENO, &mut text);
     let mut out = [0u8; router::PRINT];
-    let m = router::route(&text[..n], &mut out);
+    let m = router::route_text(&text[..n], &mut out);
     let written = io::write_all(STDOUT_FILENO, &out[..m]);
     if !written {
         os::fail(b"route: standard output");

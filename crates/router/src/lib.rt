@@ -107,3 +107,10 @@ pub fn route(text: &[u8], out: &mut [u8]) -> usize
     let a = searched(&mut list, g, diagonal, start, goal);
     put_outcome(out, &list, g, a)
 }
+
+// From a map text to what `route` prints: how many bytes it is; the rest of the room is kept.
+pub fn route_text(text: &[u8], out: &mut [u8; PRINT]) -> usize
+    ensures { λ r. ⌜ (r ≡ length (routeText (now (text .entry)))) × (now (out .exit) ≡ sets (now (out .entry)) 0 (routeText (now (text .entry)))) ⌝ }
+{
+    route(text, out)
+}

@@ -9,8 +9,8 @@ use borrow.Author.Needs.{needs}
 use Rattle.replay_texts.proofs.replay.Statement.{statement}
 use Rattle.replay_texts.proofs.replay.Tie as tie
 
-printed : (e : tie.After-route) → e .route .result ≤ length (e .route .last .1 .0)
-printed e = within _ _ _ _ (e .route .ensures) (omega (arith, length-replicate {A = ℕ} 82100 0))
+printed : (e : tie.After-route-text) → e .route-text .result ≤ length (e .route-text .last .1 .0)
+printed e = within _ _ _ _ (e .route-text .ensures) (omega (arith, length-replicate {A = ℕ} 82100 0))
 
 u16-at-requires : tie.Need-u16-at-requires
 u16-at-requires c κs = search needs
@@ -33,11 +33,8 @@ part-text-start c = search needs
 part-text-end : tie.Need-part-text-end
 part-text-end c = search needs
 
-slice-aggregate-route : tie.Need-slice-aggregate-route
-slice-aggregate-route c = search needs
-
-route-requires : tie.Need-route-requires
-route-requires c κs = search needs
+route-text-requires : tie.Need-route-text-requires
+route-text-requires c κs = search needs
 
 sub-want : tie.Need-sub-want
 sub-want c = search needs
@@ -49,10 +46,10 @@ part-want-end : tie.Need-part-want-end
 part-want-end c = search needs
 
 array-share-prefix-out : tie.Need-array-share-prefix-out
-array-share-prefix-out c = printed (c .before .before)
+array-share-prefix-out c = printed (c .before)
 
 slice-aggregate-unlike : tie.Need-slice-aggregate-unlike
-slice-aggregate-unlike c = sym (length-take-le (c .before .before .before .route .result) (c .before .before .before .route .last .1 .0) (printed (c .before .before .before)))
+slice-aggregate-unlike c = sym (length-take-le (c .before .before .route-text .result) (c .before .before .route-text .last .1 .0) (printed (c .before .before)))
 
 unlike-requires : tie.Need-unlike-requires
 unlike-requires c κs = search needs
@@ -77,8 +74,7 @@ replay-spec =
     sub-text
     part-text-start
     part-text-end
-    slice-aggregate-route
-    route-requires
+    route-text-requires
     sub-want
     part-want-start
     part-want-end

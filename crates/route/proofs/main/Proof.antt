@@ -14,8 +14,8 @@ use Rattle.io.proofs.write_all.Reads as write-all-reads
 use Rattle.os.proofs.fail.Reads as fail-reads
 use Rattle.router.proofs.route.Reads as route-reads
 
-printed : (e : tie.After-route) → e .route .result ≤ length (e .route .last .1 .0)
-printed e = within _ _ _ _ (e .route .ensures) (omega (arith, length-replicate {A = ℕ} 82100 0))
+printed : (e : tie.After-route-text) → e .route-text .result ≤ length (e .route-text .last .1 .0)
+printed e = within _ _ _ _ (e .route-text .ensures) (omega (arith, length-replicate {A = ℕ} 82100 0))
 
 slice-aggregate-read-full : tie.Need-slice-aggregate-read-full
 slice-aggregate-read-full c = search needs
@@ -26,20 +26,17 @@ read-full-requires c κs = search needs
 array-share-prefix-text : tie.Need-array-share-prefix-text
 array-share-prefix-text c = search needs
 
-slice-aggregate-route : tie.Need-slice-aggregate-route
-slice-aggregate-route c = search needs
+slice-aggregate-route-text : tie.Need-slice-aggregate-route-text
+slice-aggregate-route-text c = search needs
 
-slice-aggregate-route-2 : tie.Need-slice-aggregate-route-2
-slice-aggregate-route-2 c = search needs
-
-route-requires : tie.Need-route-requires
-route-requires c κs = search needs
+route-text-requires : tie.Need-route-text-requires
+route-text-requires c κs = search needs
 
 array-share-prefix-out : tie.Need-array-share-prefix-out
-array-share-prefix-out c = printed (c .before)
+array-share-prefix-out c = printed c
 
 slice-aggregate-write-all : tie.Need-slice-aggregate-write-all
-slice-aggregate-write-all c = sym (length-take-le (c .before .before .route .result) (c .before .before .route .last .1 .0) (printed (c .before .before)))
+slice-aggregate-write-all c = sym (length-take-le (c .before .route-text .result) (c .before .route-text .last .1 .0) (printed (c .before)))
 
 write-all-requires : tie.Need-write-all-requires
 write-all-requires c κs = search needs
@@ -63,9 +60,8 @@ main-spec =
     slice-aggregate-read-full
     read-full-requires
     array-share-prefix-text
-    slice-aggregate-route
-    slice-aggregate-route-2
-    route-requires
+    slice-aggregate-route-text
+    route-text-requires
     array-share-prefix-out
     slice-aggregate-write-all
     write-all-requires
