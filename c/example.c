@@ -69,7 +69,7 @@ static struct barnsling_route send_cart(void)
     if (r.refusal == BARNSLING_NO_ROUTE) {
         printf("Send the cart: the tables say that there is no way (NO_ROUTE, 4); no search was needed.\n");
     } else if (r.refusal == BARNSLING_EXHAUSTED) {
-        printf("Send the cart: searched, and there is no way (EXHAUSTED, 6), after %d pops.\n", (int)r.pops);
+        printf("Send the cart: searched, and no way was found (EXHAUSTED, 6), after %d pops.\n", (int)r.pops);
     } else if (r.refusal != 0) {
         printf("Send the cart: refused, %s (%d)\n", barnsling_refusal_name((int)r.refusal), (int)r.refusal);
     } else {

@@ -67,7 +67,7 @@ enum barnsling_refusal {
     BARNSLING_SETTING = 3,   /* a factor or limit out of range, or working room too short */
     BARNSLING_NO_ROUTE = 4,  /* the tables say that there is no way */
     BARNSLING_GOALS = 5,     /* no goal, more than 64, or an odd count of numbers */
-    BARNSLING_EXHAUSTED = 6, /* everything in reach was searched and no goal was met: there is no way */
+    BARNSLING_EXHAUSTED = 6, /* all that the search reaches was searched, and no goal was met */
     BARNSLING_DEPTH = 7,     /* the search would nest deeper than the depth limit */
     BARNSLING_FRINGE = 8,    /* the search needs more entries than the fringe limit */
     BARNSLING_POPS = 9,      /* the search needs more steps than the pops limit */
@@ -195,7 +195,7 @@ struct barnsling_route {
  * The way from the start to the goal; with approximate, to a cell beside it.
  * number to idx are working room: what they hold before does not matter, and what they hold afterwards is of no use.
  * Refuses STATE, SETTING, POINT (start, then goal), NO_ROUTE where the tables say no, then EXHAUSTED, DEPTH, FRINGE,
- * POPS or SAME as the search meets them, and ROOM last. After a gate has shut, a hopeful yes ends in EXHAUSTED.
+ * POPS or SAME as the search meets them, and ROOM last. After a gate has shut, a hopeful yes may end in EXHAUSTED.
  */
 struct barnsling_route barnsling_single_goal(
     const uint8_t *blocked, size_t blocked_len, const uint8_t *neighbours, size_t neighbours_len,

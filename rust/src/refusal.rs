@@ -25,7 +25,7 @@ pub enum Refusal {
     NoRoute,
     /// No goal, more than 64, or an odd count of numbers.
     Goals,
-    /// Everything in reach was searched and no goal was met.
+    /// All that the search reaches was searched, and no goal was met.
     Exhausted,
     /// The search would nest deeper than the depth limit.
     Depth,
@@ -130,7 +130,7 @@ impl fmt::Display for Refusal {
             ),
             Refusal::NoRoute => write!(f, "the tables say that there is no way"),
             Refusal::Goals => write!(f, "goals that are not 1 to 64 points"),
-            Refusal::Exhausted => write!(f, "everything in reach was searched and no goal was met"),
+            Refusal::Exhausted => write!(f, "all that the search reaches was searched, and no goal was met"),
             Refusal::Depth => write!(f, "the depth limit was met"),
             Refusal::Fringe => write!(f, "the fringe limit was met"),
             Refusal::Pops => write!(f, "the limit of pops was met"),

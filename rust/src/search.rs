@@ -163,7 +163,7 @@ impl Grid {
     /// The way from a start to a goal.
     ///
     /// Refuses STATE, SETTING, POINT (start, then goal), NO_ROUTE where the tables say no, then EXHAUSTED, DEPTH, FRINGE,
-    /// POPS or SAME as the search meets them, and ROOM last. After a gate has shut, a hopeful yes ends in EXHAUSTED.
+    /// POPS or SAME as the search meets them, and ROOM last. After a gate has shut, a hopeful yes may end in EXHAUSTED.
     ///
     /// ```
     /// use barnsling::{Grid, Point, Rooms};
