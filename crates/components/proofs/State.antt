@@ -21,7 +21,7 @@ and-false : (a : Bool) → a && false ≡ false
 and-false true = refl
 and-false false = refl
 
-or-true : (a b : Bool) → a || b ≡ true → (a ≡ true) ⊎ (b ≡ true)
+pub or-true : (a b : Bool) → a || b ≡ true → (a ≡ true) ⊎ (b ≡ true)
 or-true true b e = inl refl
 or-true false b e = inr e
 
@@ -43,17 +43,17 @@ all-stop f i e (suc n) h =
     ⊎-elim (λ q. rw (← q, e) (and-false (allTo f i)))
     (λ l. rw (all-stop f i e n l)) (eq-or-lt-of-le (le-of-suc-le-suc h))
 
-all-at : (f : ℕ → Bool) (n : ℕ) → allTo f n ≡ true → (i : ℕ) → i < n → f i ≡ true
+pub all-at : (f : ℕ → Bool) (n : ℕ) → allTo f n ≡ true → (i : ℕ) → i < n → f i ≡ true
 all-at f zero e i h = absurd (not-suc-le-zero h)
 all-at f (suc n) e i h =
     ⊎-elim (λ q. rw q (and-true (allTo f n) (f n) e .1)) (λ l. all-at f n (and-true (allTo f n) (f n) e .0) i l)
     (eq-or-lt-of-le (le-of-suc-le-suc h))
 
-all-of : (f : ℕ → Bool) (n : ℕ) → ((i : ℕ) → i < n → f i ≡ true) → allTo f n ≡ true
+pub all-of : (f : ℕ → Bool) (n : ℕ) → ((i : ℕ) → i < n → f i ≡ true) → allTo f n ≡ true
 all-of f zero h = refl
 all-of f (suc n) h = rw (all-of f n (λ i l. h i (omega arith)), h n (omega arith))
 
-cell-of : (n : ℕ) (p k : List ℕ) (i : ℕ) → cellOk n p k i ≡ true → (getD k i 0 ≤ 200) × Up n p k i
+pub cell-of : (n : ℕ) (p k : List ℕ) (i : ℕ) → cellOk n p k i ≡ true → (getD k i 0 ≤ 200) × Up n p k i
 unfolding cellOk
 cell-of n p k i e =
     let a = and-true _ _ e in (
@@ -61,7 +61,7 @@ cell-of n p k i e =
       ⊎-elim (λ q. inl (eqb-true _ _ q)) (λ q. let b = and-true _ _ q in inr (ltb-true _ _ (b .0), ltb-true _ _ (b .1))) (or-true _ _ (a .1)),
     )
 
-of-cell : (n : ℕ) (p k : List ℕ) (i : ℕ) → getD k i 0 ≤ 200 → Up n p k i → cellOk n p k i ≡ true
+pub of-cell : (n : ℕ) (p k : List ℕ) (i : ℕ) → getD k i 0 ≤ 200 → Up n p k i → cellOk n p k i ≡ true
 unfolding cellOk
 of-cell n p k i l u =
     rw (le-leb (getD k i 0) 200 l)

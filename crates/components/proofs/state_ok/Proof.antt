@@ -1,29 +1,33 @@
 -- `components::state_ok` meets its contract. Assumes nothing.
-use Prim.Native.Nat.{_≤_, _-_}
-use mathlib.Core.Path.{_≡_, _∙_, sym}
+use Prim.Native.Nat.{_≤_, _<_, _-_, _^_}
+use mathlib.Core.Path.{_≡_, refl, sym}
 use mathlib.Core.Bool.{true}
+use mathlib.Core.Logic.{⊎-elim, inl, inr}
 use borrow.Author.Needs.{needs}
-use borrow.Author.Tests.{not-true, not-false}
 use native.Mathlib.Omega.{arith}
 use Rattle.components.specs.Components.{allTo, cellOk}
-use Rattle.components.proofs.State.{all-turn, all-stop, ended}
+use Rattle.components.proofs.Blocks.{bounded}
 use Rattle.components.proofs.state_ok.Statement.{statement}
 use Rattle.components.proofs.state_ok.Tie as tie
 
 abbrev Inv-loop : tie.InvT-loop
-Inv-loop parent rank n i₀ i = (i ≤ n) × (allTo (cellOk n parent rank) i ≡ true)
+Inv-loop parent rank n end root₀ i₀ root i =
+    (end ≤ n) × (end ≤ 2 ^ 16) × (i ≤ end) × (root ≤ n - 1) × (root < 2 ^ 16) × (allTo (cellOk n parent rank) i ≡ true)
 
 abbrev μ-loop : tie.MeasureT-loop
-μ-loop parent rank n i₀ i = n - i
+μ-loop parent rank n end root₀ i₀ root i = end - i
 
 loop-holds : tie.Need-loop-holds Inv-loop μ-loop
-loop-holds c = search needs
+loop-holds c = let e = bounded (⊎-elim {0, 0, 0} (λ w. inl (w .0 .taken, w .1)) (λ w. inr (w .0 .left, w .1)) (c .if1 .came)) in (e .0, e .1, omega arith, omega arith, omega arith, refl)
 
-cell-ok-requires : tie.Need-cell-ok-requires Inv-loop μ-loop
-cell-ok-requires c κs = search needs
+add-loop : tie.Need-add-loop Inv-loop μ-loop
+add-loop c = search needs
+
+next-root-requires : tie.Need-next-root-requires Inv-loop μ-loop
+next-root-requires c κs = search needs
 
 returns : tie.Need-returns Inv-loop μ-loop
-returns c = sym (all-stop (cellOk (c .before .before .before .before .before .before .args .n) (c .before .before .before .before .before .before .args .parent .now) (c .before .before .before .before .before .before .args .rank .now)) (c .before .before .before .loop .i) (sym (c .before .cell-ok .ensures) ∙ not-true _ (c .if1 .taken)) (c .before .before .before .before .before .before .args .n) (omega arith))
+returns c = sym (c .before .next-root .ensures .illegal (c .if2 .taken))
 
 add-i : tie.Need-add-i Inv-loop μ-loop
 add-i c = search needs
@@ -32,10 +36,14 @@ loop-less : tie.Need-loop-less Inv-loop μ-loop
 loop-less c = search needs
 
 loop-again : tie.Need-loop-again Inv-loop μ-loop
-loop-again c = (omega arith, all-turn (cellOk (c .before .before .before .before .before .before .args .n) (c .before .before .before .before .before .before .args .parent .now) (c .before .before .before .before .before .before .args .rank .now)) (c .before .before .before .loop .i) _ (c .before .before .before .loop .inv .1) (c .before .cell-ok .ensures) (not-false _ (c .if1 .left)))
+loop-again c =
+    (omega arith, omega arith, omega arith, omega (arith, c .if2 .left), c .before .next-root .ensures .small (c .if2 .left), c .before .next-root .ensures .legal (c .if2 .left))
+
+cells-ok-requires : tie.Need-cells-ok-requires Inv-loop μ-loop
+cells-ok-requires c κs = search needs
 
 returns-2 : tie.Need-returns-2 Inv-loop μ-loop
-returns-2 c = ended (allTo (cellOk (c .before .before .before .before .args .n) (c .before .before .before .before .args .parent .now) (c .before .before .before .before .args .rank .now))) (c .before .before .before .before .args .n) (c .before .loop .i) true (c .before .loop .inv .0) (c .loop-test .left) (sym (c .before .loop .inv .1))
+returns-2 c = c .cells-ok .ensures
 
 pub state-ok-spec : {M : Type 1} → statement M
 state-ok-spec =
@@ -44,9 +52,11 @@ state-ok-spec =
     Inv-loop
     μ-loop
     loop-holds
-    cell-ok-requires
+    add-loop
+    next-root-requires
     returns
     add-i
     loop-less
     loop-again
+    cells-ok-requires
     returns-2)
