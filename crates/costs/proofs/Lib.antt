@@ -1,2 +1,3 @@
+pub mod One
 pub mod Product
 pub mod Bounds

@@ -79,11 +79,14 @@ pub fn in_bounds(factor: f32) -> bool
     false
 }
 
-// A distance as f32 times the factor, rounded once, then cut towards zero.
+// A distance as f32 times the factor, rounded once, then cut towards zero. A factor of 1 changes nothing: it is told apart, being the usual one.
 pub fn scale_by(distance: u32, factor: f32) -> u32
     requires { ⌜ (distance ≤ farthest) × T (inBounds factor) ⌝ }
     ensures { λ r. ⌜ (r ≡ scaleOf distance factor) × (r ≤ distance * 16) ⌝ }
 {
+    if factor == 1.0 {
+        return distance;
+    }
     let product = (distance as f32) * factor;
     std::num::truncating_f32_to_u64(product) as u32
 }

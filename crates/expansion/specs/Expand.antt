@@ -21,7 +21,7 @@ use Rattle.offers.specs.Search.{State, Out, ok, no, each, offerOf, guessAt, are
 use Rattle.jumps.specs.declared.Cell.{Cell}
 use Rattle.jumps.specs.declared.Jump.{Jump}
 use Rattle.jumps.specs.declared.Jump.the-variants.{At, Nothing}
-use Rattle.jumps.specs.Floor.{Sized, Inside, spotOf, numberOf, byteAt, stopsAt, jumpOf, priceOf}
+use Rattle.jumps.specs.Floor.{Sized, Marked, Inside, spotOf, numberOf, byteAt, stopsAt, jumpOf, priceOf}
 
 -- the tables of a grid, and the list of goals
 pub record Tables : Type 0 where
@@ -33,8 +33,9 @@ pub record Tables : Type 0 where
 abbrev pub tables : List ℕ → List ℕ → List ℕ → List ℤ → Tables
 tables b n f g = record { blocked = b; neighbours = n; forced = f; goals = g }
 
--- the tables have a byte for each cell
+-- the tables have a byte for each cell, and the plan the number of its goal's
 pub record Floors (t : Tables) (p : Plan) : Type 0 where
+  pub marked : Marked p
   pub sized : Sized (t .blocked) (p .w) (p .h)
   pub sized-neighbours : Sized (t .neighbours) (p .w) (p .h)
   pub sized-forced : Sized (t .forced) (p .w) (p .h)

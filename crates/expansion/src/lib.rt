@@ -18,7 +18,7 @@ ghost use Rattle.masks.specs.Masks.{hasBit};
 ghost use Rattle.goals.specs.Goals.{mostSide, Aimed};
 ghost use Rattle.nodes.specs.Bound.{edgeOf};
 ghost use Rattle.offers.specs.Search.{Lent, outOf, view};
-ghost use Rattle.jumps.specs.Floor.{Sized, Inside, jumpOf};
+ghost use Rattle.jumps.specs.Floor.{Sized, Marked, Inside, jumpOf};
 ghost use Rattle.expansion.specs.Expand.{tables, Floors, Ready, Backed, Clear, againAt, giveOf, reached, deeperAt, expandAt, cellOf, leapOf};
 ghost use Rattle.expansion.specs.Start.{yieldOf};
 
@@ -26,7 +26,7 @@ mod start;
 
 // Whether a cell that was reached in direction e is expanded again.
 fn again(forced: &[u8], goals: &[i32], p: Plan, e: u8, c: Cell) -> bool
-    requires { ⌜ Sized (now forced) (p .w) (p .h) × (Aimed (now goals) p × Inside p c) ⌝ }
+    requires { ⌜ Sized (now forced) (p .w) (p .h) × (Aimed (now goals) p × (Marked p × Inside p c)) ⌝ }
     ensures { λ r. ⌜ r ≡ againAt (now (forced .entry)) (now (goals .entry)) p e c ⌝ }
 {
     if !p.settings.improved {
@@ -57,6 +57,7 @@ fn give(
     ensures { λ r. ⌜ outOf r (now (number .exit)) (now (place .exit)) (now (parent .exit)) (now (cost .exit)) (now (keys .exit)) (now (idx .exit)) ≡ giveOf (now (goals .entry)) p from c k (view (now (number .entry)) (now (place .entry)) (now (parent .entry)) (now (cost .entry)) (now (keys .entry)) (now (idx .entry)) m) ⌝ }
 {
     let cell = jumps::number(p.w, c.x, c.y);
+    let at = jumps::spot(c.x, c.y);
     offers::offer(
         number,
         place,
@@ -69,6 +70,7 @@ fn give(
         m,
         from,
         cell,
+        at,
         k,
     )
 }

@@ -93,6 +93,7 @@ fn toward(
         };
     };
     let price = jumps::price_of(d);
+    let at = goals::point_of(p.w, cell);
     offers::offer(
         number,
         place,
@@ -105,6 +106,7 @@ fn toward(
         m,
         from,
         cell,
+        at,
         k + price,
     )
 }

@@ -40,7 +40,7 @@ module _ {goals : List ℤ} {p : Plan} (l : Legal goals p) where
 
   pub floors : (blocked neighbours forced : List ℕ) → Covered (p .w * p .h) blocked neighbours forced → Floors (tablesOf (p .w * p .h) blocked neighbours forced goals) p
   floors blocked neighbours forced a =
-      record { sized = sized blocked (a .blocked); sized-neighbours = sized neighbours (a .neighbours); sized-forced = sized forced (a .forced) }
+      record { marked = l .marked; sized = sized blocked (a .blocked); sized-neighbours = sized neighbours (a .neighbours); sized-forced = sized forced (a .forced) }
 
   pub rooms : (number place parent cost keys idx : List ℕ) → Roomy (p .w * p .h + 1) (p .settings .fringe) number place parent cost keys idx → Room p (take (p .w * p .h + 1) number) place parent cost keys idx
   rooms number place parent cost keys idx a =

@@ -36,7 +36,7 @@ use Rattle.cells.proofs.Cell.{cell-lt}
 use Rattle.tables.specs.Tables.{Sides}
 use Rattle.finder.specs.declared.Answer.{Answer}
 use Rattle.finder.specs.declared.Lengths.{Lengths}
-use Rattle.finder.specs.Find.{Ground, Roomy, lengthsOf, early, answerOf, outAfter, readyOf, barredOf, planOf, startedIn, pairOf, kindOf, singlePlan, singleOf, severalPlan, afterCount, afterGoals, severalOf}
+use Rattle.finder.specs.Find.{Ground, Covered, Roomy, lengthsOf, early, answerOf, outAfter, readyOf, barredOf, planOf, startedIn, pairOf, kindOf, singlePlan, singleOf, severalPlan, afterCount, afterGoals, severalOf}
 
 -- a point's cell is a place
 pub cell-of-le : (w h : ℕ) (q : Point) → cellOf w h q ≤ w * h
@@ -117,6 +117,10 @@ roomy s places number place parent cost keys idx e =
     let r = of-ready s (lengthsOf number place parent cost keys idx) places e in
     record { number = r .number; place = r .place; parent = r .parent; cost = r .cost; keys = r .keys; idx = r .idx }
 
+-- what a search asks of a plan, it asks of the same one
+pub asked : (goals : List ℤ) (p q : Plan) (b e f number place parent cost keys idx : List ℕ) → p ≡ q → Legal goals q → Covered (q .w * q .h) b e f → Roomy (q .w * q .h + 1) (q .settings .fringe) number place parent cost keys idx → Legal goals p × (Covered (p .w * p .h) b e f × Roomy (p .w * p .h + 1) (p .settings .fringe) number place parent cost keys idx)
+asked goals p q b e f number place parent cost keys idx same l c r = rw same (l, (c, r))
+
 -- a plan whose tests passed is legal
 module _ (w h : ℕ) (s : Settings) (l : Lengths) (start : Point) (sides : Sides w h) (e : readyOf s l (w * h + 1) ≡ true) (f : legal start ≡ true) where
   plan-legal : (goals : List ℤ) (k : Goal) → Placed goals k → Legal goals (planOf w h s k start)
@@ -124,6 +128,7 @@ module _ (w h : ℕ) (s : Settings) (l : Lengths) (start : Point) (sides : Sides
       let r = of-ready s l (w * h + 1) e in
       record {
         aimed = record { factor = r .factor; placed = a };
+        marked = refl;
         sides = record { wide = sides .some; narrow = sides .wide; low = sides .high };
         start = true-T (legal start) f;
         depth = r .depth;

@@ -27,6 +27,7 @@ use Rattle.trails.specs.declared.Wrote.{Wrote}
 use Rattle.trails.specs.declared.Wrote.the-variants.{Written, Room}
 use Rattle.trails.specs.Trail.{routeOf, wroteOf, leftIn}
 use Rattle.cells.specs.Cells.{cellOf}
+use Rattle.jumps.specs.Floor.{targetIn}
 use Rattle.questions.specs.Questions.{reachableOf, neighboursUnreachableOf}
 use Rattle.finder.specs.declared.Lengths.{Lengths}
 use Rattle.finder.specs.declared.Outcome.{Outcome}
@@ -101,7 +102,7 @@ barredOf w h links diagonal approximate start goal =
 -- ---- the searches
 
 abbrev pub planOf : ℕ → ℕ → Settings → Goal → Point → Plan
-planOf w h s goal start = record { w = w; h = h; settings = s; goal = goal; start = start }
+planOf w h s goal start = record { start = start; goal = goal; w = w; h = h; target = targetIn w h goal; settings = s }
 
 -- the search of a plan from its start's place, over the first places of the tables
 unfoldable pub startedOf : List ℕ → List ℕ → List ℕ → List ℤ → Plan → Reply

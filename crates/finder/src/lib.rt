@@ -14,7 +14,7 @@ ghost use lib.ListN.{length};
 ghost use Rattle.components.specs.Components.{Forest};
 ghost use Rattle.tables.specs.Tables.{Sides};
 ghost use Rattle.search.specs.Loop.{Legal};
-ghost use Rattle.finder.specs.Find.{Covered, Roomy, ground, lengthsOf, early, answerOf, outAfter, readyOf, barredOf, startedOf, kindOf, singlePlan, singleOf, severalPlan, severalOf};
+ghost use Rattle.finder.specs.Find.{Covered, Roomy, ground, lengthsOf, early, answerOf, outAfter, readyOf, barredOf, startedOf, kindOf, planOf, singlePlan, singleOf, severalPlan, severalOf};
 
 // The count of waypoints and the cost at the goal's pop, or a refusal.
 pub enum Outcome {
@@ -167,6 +167,22 @@ fn kind_of(approximate: bool, goal: Point) -> Goal
     Goal::Exact(goal)
 }
 
+// What stays the same in a search.
+fn plan(w: usize, h: usize, s: Settings, goal: Goal, start: Point) -> Plan
+    requires { ⌜ Sides w h ⌝ }
+    ensures { λ r. ⌜ r ≡ planOf w h s goal start ⌝ }
+{
+    let target = jumps::goal_cell(w, h, goal);
+    Plan {
+        start,
+        goal,
+        w,
+        h,
+        target,
+        settings: s,
+    }
+}
+
 // The search for one goal, exact or approximate. Refuses SETTING, POINT, NO_ROUTE, what the search meets, ROOM.
 pub fn single_goal(
     blocked: &[u8],
@@ -212,13 +228,7 @@ pub fn single_goal(
         return refused(Refusal::NoRoute);
     }
     let kind = kind_of(approximate, goal);
-    let p = Plan {
-        w,
-        h,
-        settings: s,
-        goal: kind,
-        start,
-    };
+    let p = plan(w, h, s, kind, start);
     let goals = [goal.x, goal.y];
     find(
         blocked,
@@ -279,13 +289,7 @@ pub fn multiple_goals(
     if let Misplaced::At(bad) = q {
         return refused(Refusal::BadPoint(bad));
     }
-    let p = Plan {
-        w,
-        h,
-        settings: s,
-        goal: Goal::Several(n),
-        start,
-    };
+    let p = plan(w, h, s, Goal::Several(n), start);
     find(
         blocked,
         neighbours,

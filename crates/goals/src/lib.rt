@@ -19,12 +19,13 @@ pub enum Goal {
     Several(usize),
 }
 
-// What stays the same in one search: the goal, the start, the sides and the settings.
+// What stays the same in one search: the start, the goal, the sides, the number of the goal's cell (jumps::goal_cell) and the settings. In this order no copy splits what is read after it.
 pub struct Plan {
-    pub goal: Goal,
     pub start: Point,
+    pub goal: Goal,
     pub w: usize,
     pub h: usize,
+    pub target: usize,
     pub settings: Settings,
 }
 

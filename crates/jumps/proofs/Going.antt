@@ -87,11 +87,6 @@ module _ (blocked : List ℕ) (w h : ℕ) (stops : ℕ → ℕ → Bool) (ox oy 
     pub same : run (freeAt blocked w h) stops ox oy price fuel x y cost ≡ answer
     pub cheap : cost + 99 * left ox oy w h x y ≤ 99 * mostSide
 
-  -- the same, at whatever cost
-  pub record Looking (answer : Jump) (x y : ℕ) : Type 0 where
-    pub cost : ℕ
-    pub going : Going answer x y cost
-
   pub start : (answer : Jump) (x y cost : ℕ) → Within w h x y → w ≤ mostSide → h ≤ mostSide → cost ≤ 99 → run (freeAt blocked w h) stops ox oy price (w + h) x y cost ≡ answer → Going answer x y cost
   start answer x y cost i hw hh hc e =
       let a = left-le ox oy w h x y mostSide i hw hh in
@@ -117,9 +112,6 @@ module _ (blocked : List ℕ) (w h : ℕ) (stops : ℕ → ℕ → Bool) (ox oy 
 
       next : Within w h (x + ox - 1) (y + oy - 1)
       next = free-inside blocked w h (x + ox - 1) (y + oy - 1) e
-
-      pub less : left ox oy w h (x + ox - 1) (y + oy - 1) < left ox oy w h x y
-      less = omega (arith, falls ox oy w h x y m (g .inside) next)
 
       pub on : price ≤ 99 → stops (x + ox - 1) (y + oy - 1) ≡ false → Going answer (x + ox - 1) (y + oy - 1) (cost + price)
       on hp f =

@@ -11,7 +11,7 @@ use lib.ListN.{getD}
 use Rattle.jumps.specs.Floor.{Within, numberOf, byteAt, freeAt, within, aheadOf, reachOf}
 use Rattle.jumps.specs.declared.Jump.{Jump}
 use Rattle.jumps.proofs.Laws.{place-lt, within-true, free-inside}
-use Rattle.jumps.proofs.Going.{Moves, Looking, on}
+use Rattle.jumps.proofs.Going.{Moves, Going, on}
 
 record Ahead (ox oy w h x y : ℕ) : Type 0 where
   inside : 0 < reachOf ox oy w h x y → Within w h (x + ox - 1) (y + oy - 1)
@@ -97,33 +97,38 @@ free-out blocked w h x y n = go (freeAt blocked w h x y) refl
     go true e = absurd (n (free-inside blocked w h x y e))
     go false e = e
 
-module _ (blocked : List ℕ) (w h : ℕ) (stops : ℕ → ℕ → Bool) (ox oy : ℕ) where
-  -- the loop's invariant: the number is that of a cell from which the answer is to be found, and so many cells lie ahead of it
-  pub record Numbered (answer : Jump) (left i : ℕ) : Type 0 where
-    pub x : ℕ
-    pub y : ℕ
-    pub looking : Looking blocked w h stops ox oy 70 answer x y
+module _ (blocked : List ℕ) (w h : ℕ) (stops : ℕ → ℕ → Bool) (ox oy price : ℕ) where
+  -- the loop's invariant: what is to be found from a cell is the answer, its number is i, and so many cells lie ahead of it
+  pub record Numbered (answer : Jump) (x y cost left i : ℕ) : Type 0 where
+    pub going : Going blocked w h stops ox oy price answer x y cost
     pub here : i ≡ numberOf w x y
     pub ahead : left ≡ reachOf ox oy w h x y
 
-  module _ (answer : Jump) (left i : ℕ) (m : Moves ox oy) (n : Numbered answer left i) where
-    a : Ahead ox oy w h (n .x) (n .y)
-    a = ahead ox oy w h (n .x) (n .y) m (n .looking .going .inside)
+  -- the same of some cell, at whatever cost
+  pub record Looking (answer : Jump) (left i : ℕ) : Type 0 where
+    pub x : ℕ
+    pub y : ℕ
+    pub cost : ℕ
+    pub numbered : Numbered answer x y cost left i
 
-    pub next-in : 0 < left → Within w h (n .x + ox - 1) (n .y + oy - 1)
+  module _ (answer : Jump) (x y cost left i : ℕ) (m : Moves ox oy) (n : Numbered answer x y cost left i) where
+    a : Ahead ox oy w h x y
+    a = ahead ox oy w h x y m (n .going .inside)
+
+    pub next-in : 0 < left → Within w h (x + ox - 1) (y + oy - 1)
     next-in l = a .inside (omega (arith, n .ahead))
 
-    pub next-out : left ≡ 0 → freeAt blocked w h (n .x + ox - 1) (n .y + oy - 1) ≡ false
-    next-out e = free-out blocked w h (n .x + ox - 1) (n .y + oy - 1) (a .outside (omega (arith, n .ahead)))
+    pub next-out : left ≡ 0 → freeAt blocked w h (x + ox - 1) (y + oy - 1) ≡ false
+    next-out e = free-out blocked w h (x + ox - 1) (y + oy - 1) (a .outside (omega (arith, n .ahead)))
 
-    pub next-left : 0 < left → left - 1 ≡ reachOf ox oy w h (n .x + ox - 1) (n .y + oy - 1)
+    pub next-left : 0 < left → left - 1 ≡ reachOf ox oy w h (x + ox - 1) (y + oy - 1)
     next-left l = omega (arith, n .ahead, a .next (omega (arith, n .ahead)))
 
-    pub next-is : 0 < left → numberOf w (n .x + ox - 1) (n .y + oy - 1) + (w + 1) ≡ i + (oy * w + ox)
-    next-is l = next-number ox oy w h (n .x) (n .y) (n .looking .going .inside) (next-in l) ∙ ap (λ (k : ℕ). k + (oy * w + ox)) (sym (n .here))
+    pub next-is : 0 < left → numberOf w (x + ox - 1) (y + oy - 1) + (w + 1) ≡ i + (oy * w + ox)
+    next-is l = next-number ox oy w h x y (n .going .inside) (next-in l) ∙ ap (λ (k : ℕ). k + (oy * w + ox)) (sym (n .here))
 
     module _ (l : 0 < left) where
-      pub next-here : i + (oy * w + ox) - (w + 1) ≡ numberOf w (n .x + ox - 1) (n .y + oy - 1)
+      pub next-here : i + (oy * w + ox) - (w + 1) ≡ numberOf w (x + ox - 1) (y + oy - 1)
       next-here = omega (arith, next-is l)
 
       pub next-fits : w + 1 ≤ i + (oy * w + ox)
@@ -132,21 +137,14 @@ module _ (blocked : List ℕ) (w h : ℕ) (stops : ℕ → ℕ → Bool) (ox oy 
       pub next-low : i + (oy * w + ox) - (w + 1) < h * w
       next-low = omega (arith, next-here, place-lt (next-in l))
 
-      byte-is : freeAt blocked w h (n .x + ox - 1) (n .y + oy - 1) ≡ eqb (getD blocked (i + (oy * w + ox) - (w + 1)) 0) 0
+      byte-is : freeAt blocked w h (x + ox - 1) (y + oy - 1) ≡ eqb (getD blocked (i + (oy * w + ox) - (w + 1)) 0) 0
       byte-is = free-in blocked (next-in l) ∙ ap (λ (k : ℕ). eqb (getD blocked k 0) 0) (sym next-here)
 
-      pub next-blocked : (getD blocked (i + (oy * w + ox) - (w + 1)) 0 ≡ 0 → ⊥) → freeAt blocked w h (n .x + ox - 1) (n .y + oy - 1) ≡ false
+      pub next-blocked : (getD blocked (i + (oy * w + ox) - (w + 1)) 0 ≡ 0 → ⊥) → freeAt blocked w h (x + ox - 1) (y + oy - 1) ≡ false
       next-blocked e = byte-is ∙ ne-eqb _ 0 e
 
-      pub next-free : getD blocked (i + (oy * w + ox) - (w + 1)) 0 ≡ 0 → freeAt blocked w h (n .x + ox - 1) (n .y + oy - 1) ≡ true
+      pub next-free : getD blocked (i + (oy * w + ox) - (w + 1)) 0 ≡ 0 → freeAt blocked w h (x + ox - 1) (y + oy - 1) ≡ true
       next-free e = byte-is ∙ eq-eqb _ 0 e
 
-      pub next-on : freeAt blocked w h (n .x + ox - 1) (n .y + oy - 1) ≡ true → stops (n .x + ox - 1) (n .y + oy - 1) ≡ false → Numbered answer (left - 1) (i + (oy * w + ox) - (w + 1))
-      next-on e f =
-          record {
-            x = n .x + ox - 1;
-            y = n .y + oy - 1;
-            looking = record { cost = n .looking .cost + 70; going = on blocked w h stops ox oy 70 answer (n .x) (n .y) (n .looking .cost) m (n .looking .going) e (omega arith) f };
-            here = next-here;
-            ahead = next-left l;
-          }
+      pub next-on : price ≤ 99 → freeAt blocked w h (x + ox - 1) (y + oy - 1) ≡ true → stops (x + ox - 1) (y + oy - 1) ≡ false → Numbered answer (x + ox - 1) (y + oy - 1) (cost + price) (left - 1) (i + (oy * w + ox) - (w + 1))
+      next-on p e f = record { going = on blocked w h stops ox oy price answer x y cost m (n .going) e p f; here = next-here; ahead = next-left l }

@@ -18,7 +18,7 @@ use Rattle.goals.specs.declared.Plan.{Plan}
 use Rattle.goals.specs.declared.Goal.{Goal}
 use Rattle.goals.specs.declared.Goal.the-variants.{Exact, Near, Several}
 use Rattle.goals.specs.Goals.{mostSide, Numbered, both, either, sameZ, samePoint, pointOf, isGoal, goalAt}
-use Rattle.jumps.specs.Floor.{Within, spotOf, numberOf, byteAt, stopsAt, stopsIn, targetIn, targetOf}
+use Rattle.jumps.specs.Floor.{Within, spotOf, numberOf, byteAt, stopsAt, stopsIn, targetIn, Marked}
 
 -- the point of a cell's number is the cell's
 pub point-of-number : {w h x y : ℕ} → Within w h x y → pointOf w (numberOf w x y) ≡ spotOf x y
@@ -37,15 +37,15 @@ both-false : (a : Bool) → both a false ≡ false
 both-false true = refl
 both-false false = refl
 
-module _ (w h i : ℕ) (some : 0 < w) (hi : i < w * h) where
+module _ (w h i : ℕ) (wide : 0 < w) (hi : i < w * h) where
   off : eqb i (w * h) ≡ false
   off = ne-eqb i (w * h) (λ e. omega arith)
 
   low : i / w < h
-  low = row-lt w h i some hi
+  low = row-lt w h i wide hi
 
   across : i % w < w
-  across = mod-lt i some
+  across = mod-lt i wide
 
   -- a point inside is the one of the number exactly if its number is that
   inside : (a b : ℕ) → a < w → b < h → both (eqb (i % w) a) (eqb (i / w) b) ≡ eqb i (b * w + a)
@@ -82,25 +82,19 @@ module _ (w h i : ℕ) (some : 0 < w) (hi : i < w * h) where
   is-in gs d (Near q) l = absurd (omega arith)
   is-in gs d (Several n) l = absurd (omega arith)
 
+-- a grid that has a cell is not 0 wide
+some : (w h i : ℕ) → i < h * w → 0 < w
+some zero h i l = absurd (omega arith)
+some (suc w) h i l = omega arith
+
 -- a cell's number is one
 pub numbered : {w h i : ℕ} → w ≤ mostSide → h ≤ mostSide → i < h * w → Numbered w i
-numbered {w} {h} {i} hw hh hi = record { some = some w hi; wide = hw; low = omega (arith, row-lt w h i (some w hi) (rw (mul-comm h w) at hi)) }
-  where
-    some : (w : ℕ) → i < h * w → 0 < w
-    some zero l = absurd (omega arith)
-    some (suc w) l = omega arith
+numbered {w} {h} {i} hw hh hi = record { some = some w h i hi; wide = hw; low = omega (arith, row-lt w h i (some w h i hi) (rw (mul-comm h w) at hi)) }
 
 module _ (goals : List ℤ) (p : Plan) (i : ℕ) (hi : i < p .h * p .w) where
-  some : 0 < p .w
-  some = go (p .w) hi
-    where
-      go : (w : ℕ) → i < p .h * w → 0 < w
-      go zero l = absurd (omega arith)
-      go (suc w) l = omega arith
-
   area : i < p .w * p .h
   area = rw (mul-comm (p .h) (p .w)) at hi
 
-  pub target-is : targetOf p ≤ p .w * p .h → eqb i (targetOf p) ≡ goalAt goals p (pointOf (p .w) i)
+  pub target-is : Marked p → p .target ≤ p .w * p .h → eqb i (p .target) ≡ goalAt goals p (pointOf (p .w) i)
   unfolding goalAt
-  target-is l = is-in (p .w) (p .h) i some area goals (p .settings .diagonal) (p .goal) l
+  target-is m l = rw m (is-in (p .w) (p .h) i (some (p .w) (p .h) i hi) area goals (p .settings .diagonal) (p .goal) (omega (arith, m)))

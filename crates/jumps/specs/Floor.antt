@@ -50,11 +50,22 @@ pub record Held (t : List ℕ) (w x y : ℕ) : Type 0 where
   pub placed : Placed w x y
   pub there : numberOf w x y < length t
 
--- what a jump asks: a byte for each cell that says blocked, one of forced directions, and goals in range
+-- the number of the one cell that is the goal, w * h where that one is outside; one more where the goal is not one point
+abbrev pub targetIn : ℕ → ℕ → Goal → ℕ
+targetIn w h (Exact q) = cellOf w h q
+targetIn w h (Near q) = w * h + 1
+targetIn w h (Several n) = w * h + 1
+
+-- a plan that has the number of its goal's cell
+abbrev pub Marked : Plan → Type 0
+Marked p = p .target ≡ targetIn (p .w) (p .h) (p .goal)
+
+-- what a jump asks: a byte for each cell that says blocked, one of forced directions, goals in range, and the number of the goal's cell
 pub record Floor (blocked forced : List ℕ) (goals : List ℤ) (p : Plan) : Type 0 where
   pub sized : Sized blocked (p .w) (p .h)
   pub sized-forced : Sized forced (p .w) (p .h)
   pub aimed : Aimed goals p
+  pub marked : Marked p
 
 -- the point of a cell that is inside
 abbrev pub spotOf : ℕ → ℕ → Point
@@ -79,15 +90,6 @@ stopsAt forced goals p d x y = either (goalAt goals p (spotOf x y)) (hasBit (byt
 -- the same by a cell's number
 unfoldable pub stopsIn : List ℕ → List ℤ → Plan → ℕ → ℕ → Bool
 stopsIn forced goals p d i = either (goalAt goals p (pointOf (p .w) i)) (hasBit (getD forced i 0) (d % 8))
-
--- the number of the one cell that is the goal, w * h where that one is outside; one more where the goal is not one point
-abbrev pub targetIn : ℕ → ℕ → Goal → ℕ
-targetIn w h (Exact q) = cellOf w h q
-targetIn w h (Near q) = w * h + 1
-targetIn w h (Several n) = w * h + 1
-
-abbrev pub targetOf : Plan → ℕ
-targetOf p = targetIn (p .w) (p .h) (p .goal)
 
 -- how many cells of a side lie ahead of a place, by an offset that is not 1
 abbrev pub aheadOf : ℕ → ℕ → ℕ → ℕ

@@ -6,7 +6,7 @@ ghost use mathlib.Core.Path.{_≡_};
 ghost use mathlib.Core.Bool.{not};
 ghost use Prim.Native.Nat.{_+_, _*_, _%_, _<_, _≤_};
 ghost use Rattle.goals.specs.Goals.{mostSide, both, either, pointOf, goalAt, Aimed};
-ghost use Rattle.jumps.specs.Floor.{Sized, Within, Inside, Placed, Held, Floor, spotOf, numberOf, byteAt, freeAt, stopsAt, stopsIn, targetOf, aheadOf, reachOf, seesOn, seesEither, turnsAt, haltsAt, priceOf, jumpOf};
+ghost use Rattle.jumps.specs.Floor.{Sized, Within, Inside, Placed, Held, Floor, Marked, spotOf, numberOf, byteAt, freeAt, stopsAt, stopsIn, targetIn, aheadOf, reachOf, seesOn, seesEither, turnsAt, haltsAt, priceOf, jumpOf};
 
 pub struct Cell {
     pub x: usize,
@@ -74,25 +74,11 @@ pub fn price_of(d: u8) -> u64
     70 + 29 * ((d % 2) as u64)
 }
 
-// Whether an inside cell is a goal or forced for direction d.
-pub fn stops(forced: &[u8], goals: &[i32], p: Plan, d: u8, x: usize, y: usize) -> bool
-    requires { ⌜ Sized (now forced) (p .w) (p .h) × (Aimed (now goals) p × Within (p .w) (p .h) x y) ⌝ }
-    ensures { λ r. ⌜ r ≡ stopsAt (now (forced .entry)) (now (goals .entry)) p d x y ⌝ }
-{
-    if goals::is_goal(goals, p, spot(x, y)) {
-        return true;
-    }
-    masks::bit(byte(forced, p.w, x, y), d)
-}
-
 // The number of the one cell that is the goal, w * h where that one is outside; one more where the goal is not one point.
-fn goal_cell(p: Plan) -> usize
-    requires { ⌜ (p .w ≤ mostSide) × (p .h ≤ mostSide) ⌝ }
-    ensures { λ r. ⌜ r ≡ targetOf p ⌝ }
+pub fn goal_cell(w: usize, h: usize, goal: Goal) -> usize
+    requires { ⌜ (w ≤ mostSide) × (h ≤ mostSide) ⌝ }
+    ensures { λ r. ⌜ r ≡ targetIn w h goal ⌝ }
 {
-    let w = p.w;
-    let h = p.h;
-    let goal = p.goal;
     match goal {
         Goal::Exact(q) => cells::cell_of(w, h, q),
         Goal::Near(_) => w * h + 1,
@@ -100,13 +86,14 @@ fn goal_cell(p: Plan) -> usize
     }
 }
 
-// Whether the cell of a number is a goal. The target is that of the plan: one exact goal is known by its number.
-fn hits(goals: &[i32], p: Plan, target: usize, i: usize) -> bool
-    requires { ⌜ (p .w ≤ mostSide) × ((p .h ≤ mostSide) × (Aimed (now goals) p × ((target ≡ targetOf p) × (i < p .h * p .w)))) ⌝ }
+// Whether the cell of a number is a goal: one exact goal is known by its number.
+pub fn hits(goals: &[i32], p: Plan, i: usize) -> bool
+    requires { ⌜ (p .w ≤ mostSide) × ((p .h ≤ mostSide) × (Aimed (now goals) p × (Marked p × (i < p .h * p .w)))) ⌝ }
     ensures { λ r. ⌜ r ≡ goalAt (now (goals .entry)) p (pointOf (p .w) i) ⌝ }
 {
     let w = p.w;
     let h = p.h;
+    let target = p.target;
     if w * h < target {
         return goals::is_goal(goals, p, goals::point_of(w, i));
     }
@@ -114,14 +101,23 @@ fn hits(goals: &[i32], p: Plan, target: usize, i: usize) -> bool
 }
 
 // Whether it is a goal or forced for direction d.
-fn stops_in(forced: &[u8], goals: &[i32], p: Plan, target: usize, d: u8, i: usize) -> bool
-    requires { ⌜ Sized (now forced) (p .w) (p .h) × (Aimed (now goals) p × ((target ≡ targetOf p) × (i < p .h * p .w))) ⌝ }
+fn stops_in(forced: &[u8], goals: &[i32], p: Plan, d: u8, i: usize) -> bool
+    requires { ⌜ Sized (now forced) (p .w) (p .h) × (Aimed (now goals) p × (Marked p × (i < p .h * p .w))) ⌝ }
     ensures { λ r. ⌜ r ≡ stopsIn (now (forced .entry)) (now (goals .entry)) p d i ⌝ }
 {
-    if hits(goals, p, target, i) {
+    if hits(goals, p, i) {
         return true;
     }
     masks::bit(forced[i], d)
+}
+
+// Whether an inside cell is a goal or forced for direction d.
+pub fn stops(forced: &[u8], goals: &[i32], p: Plan, d: u8, x: usize, y: usize) -> bool
+    requires { ⌜ Sized (now forced) (p .w) (p .h) × (Aimed (now goals) p × (Marked p × Within (p .w) (p .h) x y)) ⌝ }
+    ensures { λ r. ⌜ r ≡ stopsAt (now (forced .entry)) (now (goals .entry)) p d x y ⌝ }
+{
+    let i = number(p.w, x, y);
+    stops_in(forced, goals, p, d, i)
 }
 
 // How many cells of a side lie ahead of a place.
@@ -155,17 +151,8 @@ fn reach(ox: usize, oy: usize, w: usize, h: usize, x: usize, y: usize) -> usize
 }
 
 // Whether a straight jump from an inside cell finds something. It steps by cell numbers: as many as lie ahead.
-fn sees_on(
-    blocked: &[u8],
-    forced: &[u8],
-    goals: &[i32],
-    p: Plan,
-    target: usize,
-    d: u8,
-    x: usize,
-    y: usize,
-) -> bool
-    requires { ⌜ Floor (now blocked) (now forced) (now goals) p × (Within (p .w) (p .h) x y × (target ≡ targetOf p)) ⌝ }
+fn sees_on(blocked: &[u8], forced: &[u8], goals: &[i32], p: Plan, d: u8, x: usize, y: usize) -> bool
+    requires { ⌜ Floor (now blocked) (now forced) (now goals) p × Within (p .w) (p .h) x y ⌝ }
     ensures { λ r. ⌜ r ≡ seesOn (now (blocked .entry)) (now (forced .entry)) (now (goals .entry)) p d x y ⌝ }
 {
     let w = p.w;
@@ -179,7 +166,7 @@ fn sees_on(
         if blocked[i] != 0 {
             return false;
         }
-        if stops_in(forced, goals, p, target, d, i) {
+        if stops_in(forced, goals, p, d, i) {
             return true;
         }
         left -= 1;
@@ -192,19 +179,18 @@ fn sees_either(
     forced: &[u8],
     goals: &[i32],
     p: Plan,
-    target: usize,
     d: u8,
     e: u8,
     x: usize,
     y: usize,
 ) -> bool
-    requires { ⌜ Floor (now blocked) (now forced) (now goals) p × (Within (p .w) (p .h) x y × (target ≡ targetOf p)) ⌝ }
+    requires { ⌜ Floor (now blocked) (now forced) (now goals) p × Within (p .w) (p .h) x y ⌝ }
     ensures { λ r. ⌜ r ≡ seesEither (now (blocked .entry)) (now (forced .entry)) (now (goals .entry)) p d e x y ⌝ }
 {
-    if sees_on(blocked, forced, goals, p, target, d, x, y) {
+    if sees_on(blocked, forced, goals, p, d, x, y) {
         return true;
     }
-    sees_on(blocked, forced, goals, p, target, e, x, y)
+    sees_on(blocked, forced, goals, p, e, x, y)
 }
 
 // Whether a straight jump to a side finds something: along x or y where d is diagonal, and, diagonals off, a perpendicular one.
@@ -214,12 +200,11 @@ fn sees_aside(
     forced: &[u8],
     goals: &[i32],
     p: Plan,
-    target: usize,
     d: u8,
     x: usize,
     y: usize,
 ) -> bool
-    requires { ⌜ Floor (now blocked) (now forced) (now goals) p × ((d < 8) × (Within (p .w) (p .h) x y × (target ≡ targetOf p))) ⌝ }
+    requires { ⌜ Floor (now blocked) (now forced) (now goals) p × ((d < 8) × Within (p .w) (p .h) x y) ⌝ }
     ensures { λ r. ⌜ r ≡ either (turnsAt (now (blocked .entry)) (now (forced .entry)) (now (goals .entry)) p d x y) (both (not (p .settings .diagonal)) (seesEither (now (blocked .entry)) (now (forced .entry)) (now (goals .entry)) p ((d + 2) % 8) ((d + 6) % 8) x y)) ⌝ }
 {
     let last = 1 + (!p.settings.diagonal) as u8;
@@ -230,7 +215,6 @@ fn sees_aside(
             forced,
             goals,
             p,
-            target,
             (d + turn) % 8,
             (d + 8 - turn) % 8,
             x,
@@ -243,24 +227,24 @@ fn sees_aside(
     false
 }
 
-// Whether a jump in direction d stops at an inside cell.
+// Whether a jump in direction d stops at an inside cell, whose number is i.
 fn halts(
     blocked: &[u8],
     forced: &[u8],
     goals: &[i32],
     p: Plan,
-    target: usize,
     d: u8,
     x: usize,
     y: usize,
+    i: usize,
 ) -> bool
-    requires { ⌜ Floor (now blocked) (now forced) (now goals) p × ((d < 8) × (Within (p .w) (p .h) x y × (target ≡ targetOf p))) ⌝ }
+    requires { ⌜ Floor (now blocked) (now forced) (now goals) p × ((d < 8) × (Within (p .w) (p .h) x y × (i ≡ numberOf (p .w) x y))) ⌝ }
     ensures { λ r. ⌜ r ≡ haltsAt (now (blocked .entry)) (now (forced .entry)) (now (goals .entry)) p d x y ⌝ }
 {
-    if stops(forced, goals, p, d, x, y) {
+    if stops_in(forced, goals, p, d, i) {
         return true;
     }
-    sees_aside(blocked, forced, goals, p, target, d, x, y)
+    sees_aside(blocked, forced, goals, p, d, x, y)
 }
 
 // A jump in direction d from a cell, its first step at the caller's price, later ones at their own. It finds nothing on leaving free cells.
@@ -277,23 +261,27 @@ pub fn jump_along(
     ensures { λ r. ⌜ r ≡ jumpOf (now (blocked .entry)) (now (forced .entry)) (now (goals .entry)) p d from price ⌝ }
 {
     let w = p.w;
-    let h = p.h;
     let ox = points::off_x(d);
     let oy = points::off_y(d);
+    let by = oy * w + ox;
     let step = price_of(d);
-    let target = goal_cell(p);
     let mut x = from.x;
     let mut y = from.y;
+    let mut rest = reach(ox, oy, w, p.h, x, y);
+    let mut i = number(w, x, y);
     let mut cost = price;
-    loop {
+    while 0 < rest {
         x = x + ox - 1;
         y = y + oy - 1;
-        if !is_free(blocked, w, h, x, y) {
+        i = i + by - (w + 1);
+        if blocked[i] != 0 {
             return Jump::Nothing;
         }
-        if halts(blocked, forced, goals, p, target, d, x, y) {
+        if halts(blocked, forced, goals, p, d, x, y, i) {
             return Jump::At(Cell { x, y }, cost);
         }
         cost += step;
+        rest -= 1;
     }
+    Jump::Nothing
 }

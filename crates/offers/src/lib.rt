@@ -5,7 +5,7 @@ use points::Refusal;
 ghost use mathlib.Core.Path.{_≡_};
 ghost use Prim.Native.Nat.{_^_, _<_, _≤_};
 ghost use lib.ListN.{length};
-ghost use Rattle.goals.specs.Goals.{Aimed};
+ghost use Rattle.goals.specs.Goals.{pointOf};
 ghost use Rattle.offers.specs.Search.{Sides, Lent, areaOf, placePoint, guessAt, outOf, view, offerOf};
 
 // How many nodes and how many fringe entries there are.
@@ -39,16 +39,7 @@ pub fn place_point(p: Plan, place: usize) -> Point
     goals::point_of(w, place)
 }
 
-// The guess at the cost from a cell to a goal.
-fn guess_at(goals: &[i32], p: Plan, cell: usize) -> u64
-    requires { ⌜ Aimed (now goals) p × (Sides p × (cell < areaOf p)) ⌝ }
-    ensures { λ r. ⌜ (r ≡ guessAt (now (goals .entry)) p cell) × (r < 2 ^ 23) ⌝ }
-{
-    let at = goals::point_of(p.w, cell);
-    goals::guess(goals, p, at)
-}
-
-// Offers a cell that is reached from node `from` at the cost k.
+// Offers a cell, whose point is at, that is reached from node `from` at the cost k.
 pub fn offer(
     number: &mut [u32],
     place: &mut [u32],
@@ -61,9 +52,10 @@ pub fn offer(
     m: Mark,
     from: usize,
     cell: usize,
+    at: Point,
     k: u64,
 ) -> Step
-    requires { ⌜ Lent (now goals) p (now number) (now place) (now parent) (now cost) (now keys) (now idx) m × ((cell < areaOf p) × ((from < length (now number)) × (k < 2 ^ 40))) ⌝ }
+    requires { ⌜ Lent (now goals) p (now number) (now place) (now parent) (now cost) (now keys) (now idx) m × ((cell < areaOf p) × ((at ≡ pointOf (p .w) cell) × ((from < length (now number)) × (k < 2 ^ 40)))) ⌝ }
     ensures { λ r. ⌜ outOf r (now (number .exit)) (now (place .exit)) (now (parent .exit)) (now (cost .exit)) (now (keys .exit)) (now (idx .exit)) ≡ offerOf (p .settings .fringe) (guessAt (now (goals .entry)) p cell) from cell k (view (now (number .entry)) (now (place .entry)) (now (parent .entry)) (now (cost .entry)) (now (keys .entry)) (now (idx .entry)) m) ⌝ }
 {
     let count = m.count;
@@ -77,10 +69,10 @@ pub fn offer(
                 fate: Fate::Refused(Refusal::Fringe),
             };
         }
-        let h = guess_at(goals, p, cell);
+        let h = goals::guess(goals, p, at);
         let key = fringe::keys::key_of(k + h, h);
-        let at = r.index;
-        fringe::push(keys, idx, heap, key, at as u32);
+        let node = r.index;
+        fringe::push(keys, idx, heap, key, node as u32);
         return Step {
             mark: Mark {
                 count: r.count,

@@ -1,23 +1,19 @@
 -- The costs and the points of the search of a plan, and that its expansion keeps a good state good. Assumes nothing.
-use mathlib.Core.Path.{_≡_, refl, subst}
+use mathlib.Core.Path.{_≡_, refl}
 use mathlib.Core.List.{List}
 use Prim.Native.Nat.{ℕ, _+_, _*_, _^_, _<_, _≤_}
 use native.Mathlib.Nat.{mul-le-mul}
 use native.Mathlib.Omega.{arith}
-use lib.Dec.{T}
 use lib.IntN.{ℤ}
-use Rattle.points.specs.declared.Point.{Point}
-use Rattle.points.specs.Plane.{legal}
 use Rattle.costs.specs.Limits.{mostDepth}
 use Rattle.goals.specs.declared.Plan.{Plan}
 use Rattle.goals.specs.Goals.{mostSide}
 use Rattle.nodes.specs.Bound.{times, edgeOf}
-use Rattle.nodes.proofs.Laws.{by-eq}
 use Rattle.nodes.proofs.History.{times-is, base-bound}
-use Rattle.offers.specs.Search.{State, Keeps, Ended, found, mostPlaces, areaOf, placePoint, searchOf}
+use Rattle.offers.specs.Search.{State, Keeps, Ended, found, mostPlaces, areaOf, searchOf}
 use Rattle.offers.proofs.Good.{run-ended}
 use Rattle.offers.proofs.Start.{begin-good}
-use Rattle.offers.proofs.Laws.{area-low, cell-legal, point-start, point-cell}
+use Rattle.offers.proofs.Laws.{area-low}
 use Rattle.expansion.specs.Expand.{Tables}
 use Rattle.expansion.specs.Start.{yieldOf}
 use Rattle.expansion.proofs.Starts.{yield-keeps}
@@ -33,13 +29,6 @@ edges-low p l =
     let m : (areaOf p + 1) * edgeIn p ≤ mostPlaces * edgeOf mostSide mostDepth = mul-le-mul n (edge-low p l) in
     let b : mostPlaces * edgeOf mostSide mostDepth + 2 ^ 23 < 2 ^ 31 = base-bound in
     omega (arith, times-is (edgeIn p) (areaOf p + 1))
-
--- the point of a place is in range
-pub point-legal : (goals : List ℤ) (p : Plan) (c : ℕ) → Legal goals p → c ≤ areaOf p → T (legal (placePoint p c))
-point-legal goals p c l h =
-    by-eq c (areaOf p)
-    (λ e. subst (λ (q : Point). T (legal q)) (point-start p c e) (l .start))
-    (λ e. subst (λ (q : Point). T (legal q)) (point-cell p c e) (cell-legal p c (l .sides) (omega arith)))
 
 -- expanding a node keeps a good state good
 pub yields-good : (t : Tables) (p : Plan) → Legal (t .goals) p → Keeps (areaOf p + 1) (p .settings .fringe) (edgeIn p) (areaOf p) (yieldOf t p)

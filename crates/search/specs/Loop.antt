@@ -14,6 +14,7 @@ use Rattle.goals.specs.Goals.{mostSide, goalAt, Aimed}
 use Rattle.offers.specs.Search as S
 use Rattle.offers.specs.Search.{State, view, Good, Sides, areaOf, placePoint, searchOf}
 use Rattle.nodes.specs.Bound.{edgeOf}
+use Rattle.jumps.specs.Floor.{Marked}
 use Rattle.expansion.specs.Expand.{Tables}
 use Rattle.expansion.specs.Start.{yieldOf}
 use Rattle.search.specs.declared.Turn.{Turn}
@@ -47,9 +48,10 @@ edgeIn p = edgeOf mostSide (p .settings .depth)
 abbrev pub GoodIn : Plan → State → Type 0
 GoodIn p = Good (areaOf p + 1) (p .settings .fringe) (edgeIn p) (areaOf p)
 
--- a plan whose sides, goals, start and limits are in range
+-- a plan whose sides, goals, start and limits are in range, and which has the number of its goal's cell
 pub record Legal (goals : List ℤ) (p : Plan) : Type 0 where
   pub aimed : Aimed goals p
+  pub marked : Marked p
   pub sides : Sides p
   pub start : T (legal (p .start))
   pub depth : p .settings .depth ≤ mostDepth

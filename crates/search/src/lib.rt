@@ -77,7 +77,10 @@ fn at_goal(goals: &[i32], p: Plan, place: usize) -> bool
     requires { ⌜ Legal (now goals) p × (place ≤ areaOf p) ⌝ }
     ensures { λ r. ⌜ r ≡ goalOf (now (goals .entry)) p place ⌝ }
 {
-    goals::is_goal(goals, p, offers::place_point(p, place))
+    if place < p.h * p.w {
+        return jumps::hits(goals, p, place);
+    }
+    goals::is_goal(goals, p, p.start)
 }
 
 // One pop: a goal ends the search, any other node is visited.

@@ -195,7 +195,7 @@ expand-returns-3 t c =
 follow-jump-along-requires : (t : ℕ) → follow-lts.Need-jump-along-requires (follow-claims t) (follow-at t) follow.Post
 follow-jump-along-requires t c κs =
     let q = c .before .before .before .before .before .before .before .before .before .pre .1 in
-    (record { sized = q .0 .floors .sized; sized-forced = q .0 .floors .sized-forced; aimed = q .0 .lent .aimed }, (q .1 .0, (q .0 .inside, q .1 .1 .1)))
+    (record { sized = q .0 .floors .sized; sized-forced = q .0 .floors .sized-forced; aimed = q .0 .lent .aimed; marked = q .0 .floors .marked }, (q .1 .0, (q .0 .inside, q .1 .1 .1)))
 
 follow-enum-known-c : (t : ℕ) → follow-lts.Need-enum-known-c (follow-claims t) (follow-at t) follow.Post
 follow-enum-known-c t c = search needs
@@ -216,7 +216,7 @@ fine t c =
     jump-found _ _ _ _ mostSide _ _ _ _ _ (q .0 .floors .sized .wide) (q .0 .floors .sized .high) (q .0 .inside) (q .1 .1 .1) (sym (jumped t c))
 
 follow-again-requires : (t : ℕ) → follow-lts.Need-again-requires (follow-claims t) (follow-at t) follow.Post
-follow-again-requires t c κs = let q = c .before .before .before .before .before .before .before .before .before .before .before .before .before .pre .1 in (q .0 .floors .sized-forced, (q .0 .lent .aimed, fine t (c .before) .inside))
+follow-again-requires t c κs = let q = c .before .before .before .before .before .before .before .before .before .before .before .before .before .pre .1 in (q .0 .floors .sized-forced, (q .0 .lent .aimed, (q .0 .floors .marked, fine t (c .before) .inside)))
 
 follow-returns-2 : (t : ℕ) → follow-lts.Need-returns-2 (follow-claims t) (follow-at t) follow.Post
 follow-returns-2 t c = deeper-none _ _ _ _ _ _ _ _ (c .if2 .taken) ∙ reached-deep _ _ _ _ _ _ _ _ _ _ (jumped t (c .before .before .before .before)) (sym (c .before .before .again .ensures) ∙ c .before .if1 .taken)

@@ -1,7 +1,10 @@
 -- `expansion::give` meets its contract. Assumes nothing.
+use mathlib.Core.Path.{sym, _∙_, ap}
 use native.Mathlib.Omega.{arith}
+use Rattle.goals.specs.Goals.{pointOf}
 use Rattle.offers.proofs.Laws.{area-is}
-use Rattle.jumps.proofs.Laws.{place-lt, placed}
+use Rattle.jumps.proofs.Laws.{place-lt, placed, wider}
+use Rattle.jumps.proofs.Targets.{point-of-number}
 use Rattle.expansion.specs.Expand.{giveOf}
 use Rattle.expansion.proofs.give.Statement.{statement}
 use Rattle.expansion.proofs.give.Tie as tie
@@ -9,8 +12,15 @@ use Rattle.expansion.proofs.give.Tie as tie
 number-requires : tie.Need-number-requires
 number-requires c κs = let f = c .before .before .before .before .before .before .pre in placed (f .0 .sides .narrow) (f .0 .sides .low) (f .1 .0)
 
+spot-requires : tie.Need-spot-requires
+spot-requires c κs = let f = c .before .before .before .before .before .before .before .pre in wider (f .0 .sides .narrow) (f .0 .sides .low) (f .1 .0)
+
 offer-requires : tie.Need-offer-requires
-offer-requires c κs = let f = c .before .before .before .before .before .before .before .before .before .before .before .before .before .pre in (f .0, (omega (arith, place-lt (f .1 .0), area-is (c .before .before .before .before .before .before .before .before .before .before .before .before .before .args .p), c .before .before .before .before .before .before .number .ensures), f .1 .1))
+offer-requires c κs =
+    let a = c .before .before .before .before .before .before .before .before .before .before .before .before .before .before in
+    let f = a .pre in
+    let n = c .before .before .before .before .before .before .before .number .ensures in
+    (f .0, (omega (arith, place-lt (f .1 .0), area-is (a .args .p), n), (c .before .before .before .before .before .before .spot .ensures ∙ sym (point-of-number (f .1 .0)) ∙ ap (pointOf (a .args .p .w)) (sym n), f .1 .1)))
 
 same-length : tie.Need-same-length
 same-length c = c .before .before .before .before .before .before .before .before .before .before .before .before .offer .kept .0
@@ -32,13 +42,14 @@ same-length-6 c = c .before .before .before .before .before .before .before .bef
 
 returns : tie.Need-returns
 unfolding giveOf
-returns c = rw (← c .before .before .before .before .before .before .before .before .before .before .before .before .before .before .before .before .before .before .before .number .ensures) (c .before .before .before .before .before .before .before .before .before .before .before .before .offer .ensures)
+returns c = rw (← c .before .before .before .before .before .before .before .before .before .before .before .before .before .before .before .before .before .before .before .before .number .ensures) (c .before .before .before .before .before .before .before .before .before .before .before .before .offer .ensures)
 
 pub give-spec : {M : Type 1} → statement M
 give-spec =
     tie.close
     (tie.spec
     number-requires
+    spot-requires
     offer-requires
     same-length
     same-length-2

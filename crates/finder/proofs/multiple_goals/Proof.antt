@@ -4,7 +4,7 @@ use Prim.Native.Nat.{ℕ}
 use borrow.Author.Tests.{not-true, not-false}
 use borrow.Author.Needs.{needs}
 use lib.ListN.{length}
-use Rattle.finder.proofs.Laws.{stopped, handed, roomy, count-is, several-legal, several-setting, several-count, several-start, several-goals, several-open}
+use Rattle.finder.proofs.Laws.{stopped, handed, roomy, asked, count-is, several-legal, several-setting, several-count, several-start, several-goals, several-open}
 use Rattle.finder.specs.Find.{ground, lengthsOf, planOf, startedIn, severalPlan}
 use Rattle.goals.specs.declared.Goal.the-variants.{Several}
 use Rattle.finder.proofs.multiple_goals.Statement.{statement}
@@ -64,8 +64,11 @@ returns-4 c = let a = c .before .before .before .before .before .before .before 
 enum-told-2 : tie.Need-enum-told-2
 enum-told-2 c = search needs
 
+plan-requires : tie.Need-plan-requires
+plan-requires c κs = search needs
+
 find-requires : tie.Need-find-requires
-find-requires c κs = let a = c .before .before .before .before .before .before .before .before .before .before .before .before .before .before .before .before .before .before .before .before .before .before .before .before .before .before .before in let k = count-is (length (a .args .goals .now)) _ (sym (c .before .before .before .before .before .before .before .before .before .before .before .before .before .c .given .1) ∙ c .before .before .before .before .before .before .before .before .before .before .before .before .before .before .before .count-goals .ensures) in (several-legal (a .args .w) (a .args .h) (a .args .s) (lengthsOf (a .args .number .now) (a .args .place .now) (a .args .parent .now) (a .args .cost .now) (a .args .keys .now) (a .args .idx .now)) (a .args .start) (a .pre .0) (sym (c .before .before .before .before .before .before .before .before .before .before .before .before .before .before .before .before .before .ready .ensures) ∙ not-false _ (c .before .before .before .before .before .before .before .before .before .before .before .before .before .before .before .before .if1 .left)) (sym (c .before .before .before .before .before .before .before .before .before .before .before .legal .ensures) ∙ not-false _ (c .before .before .before .before .before .before .before .before .before .before .if2 .left)) _ _ (k .1 .0) (k .1 .1) (sym (c .before .before .before .before .before .before .before .enum-told2 .given .1) ∙ c .before .before .before .before .before .before .before .before .before .first-misplaced .ensures), (a .pre .1, roomy (a .args .s) _ _ _ _ _ _ _ (sym (c .before .before .before .before .before .before .before .before .before .before .before .before .before .before .before .before .before .ready .ensures) ∙ not-false _ (c .before .before .before .before .before .before .before .before .before .before .before .before .before .before .before .before .if1 .left))))
+find-requires c κs = let a = c .before .before .before .before .before .before .before .before .before .before .before .before .before .before .before .before .before .before .before .before .before .before .before .before .before .before .before .before in let k = count-is (length (a .args .goals .now)) _ (sym (c .before .before .before .before .before .before .before .before .before .before .before .before .before .before .c .given .1) ∙ c .before .before .before .before .before .before .before .before .before .before .before .before .before .before .before .before .count-goals .ensures) in asked _ _ _ _ _ _ _ _ _ _ _ _ (c .before .before .before .before .before .before .before .plan .ensures) (several-legal (a .args .w) (a .args .h) (a .args .s) (lengthsOf (a .args .number .now) (a .args .place .now) (a .args .parent .now) (a .args .cost .now) (a .args .keys .now) (a .args .idx .now)) (a .args .start) (a .pre .0) (sym (c .before .before .before .before .before .before .before .before .before .before .before .before .before .before .before .before .before .before .ready .ensures) ∙ not-false _ (c .before .before .before .before .before .before .before .before .before .before .before .before .before .before .before .before .before .if1 .left)) (sym (c .before .before .before .before .before .before .before .before .before .before .before .before .legal .ensures) ∙ not-false _ (c .before .before .before .before .before .before .before .before .before .before .before .if2 .left)) _ _ (k .1 .0) (k .1 .1) (sym (c .before .before .before .before .before .before .before .before .enum-told2 .given .1) ∙ c .before .before .before .before .before .before .before .before .before .before .first-misplaced .ensures)) (a .pre .1) (roomy (a .args .s) _ _ _ _ _ _ _ (sym (c .before .before .before .before .before .before .before .before .before .before .before .before .before .before .before .before .before .before .ready .ensures) ∙ not-false _ (c .before .before .before .before .before .before .before .before .before .before .before .before .before .before .before .before .before .if1 .left)))
 
 same-length : tie.Need-same-length
 same-length c = search needs
@@ -89,7 +92,7 @@ same-length-7 : tie.Need-same-length-7
 same-length-7 c = search needs
 
 returns-5 : tie.Need-returns-5
-returns-5 c = let a = c .before .before .before .before .before .before .before .before .before .before .before .before .before .before .before .before .before .before .before .before .before .before .before .before .before .before .before .before .before .before .before .before .before .before .before .before .before .before .before .before .before in handed _ _ _ _ (startedIn (ground (a .args .w) (a .args .h) (a .args .blocked .now) (a .args .neighbours .now) (a .args .forced .now)) (a .args .goals .now)) _ (severalPlan (a .args .w) (a .args .h) (a .args .s) (a .args .start) (a .args .goals .now)) _ (c .before .before .before .before .before .before .before .before .before .before .before .before .before .find .ensures) (ap (λ (k : ℕ). planOf (a .args .w) (a .args .h) (a .args .s) (Several k) (a .args .start)) (count-is (length (a .args .goals .now)) _ (sym (c .before .before .before .before .before .before .before .before .before .before .before .before .before .before .before .before .before .before .before .before .before .before .before .before .before .before .before .c .given .1) ∙ c .before .before .before .before .before .before .before .before .before .before .before .before .before .before .before .before .before .before .before .before .before .before .before .before .before .before .before .before .before .count-goals .ensures) .0)) (several-open (ground (a .args .w) (a .args .h) (a .args .blocked .now) (a .args .neighbours .now) (a .args .forced .now)) (a .args .s) (lengthsOf (a .args .number .now) (a .args .place .now) (a .args .parent .now) (a .args .cost .now) (a .args .keys .now) (a .args .idx .now)) (a .args .start) (a .args .goals .now) (sym (c .before .before .before .before .before .before .before .before .before .before .before .before .before .before .before .before .before .before .before .before .before .before .before .before .before .before .before .before .before .before .before .ready .ensures) ∙ not-false _ (c .before .before .before .before .before .before .before .before .before .before .before .before .before .before .before .before .before .before .before .before .before .before .before .before .before .before .before .before .before .before .if1 .left)) _ (sym (c .before .before .before .before .before .before .before .before .before .before .before .before .before .before .before .before .before .before .before .before .before .before .before .before .before .before .before .c .given .1) ∙ c .before .before .before .before .before .before .before .before .before .before .before .before .before .before .before .before .before .before .before .before .before .before .before .before .before .before .before .before .before .count-goals .ensures) (sym (c .before .before .before .before .before .before .before .before .before .before .before .before .before .before .before .before .before .before .before .before .before .before .before .before .before .legal .ensures) ∙ not-false _ (c .before .before .before .before .before .before .before .before .before .before .before .before .before .before .before .before .before .before .before .before .before .before .before .before .if2 .left)) (sym (c .before .before .before .before .before .before .before .before .before .before .before .before .before .before .before .before .before .before .before .before .before .enum-told2 .given .1) ∙ c .before .before .before .before .before .before .before .before .before .before .before .before .before .before .before .before .before .before .before .before .before .before .before .first-misplaced .ensures))
+returns-5 c = let a = c .before .before .before .before .before .before .before .before .before .before .before .before .before .before .before .before .before .before .before .before .before .before .before .before .before .before .before .before .before .before .before .before .before .before .before .before .before .before .before .before .before .before in handed _ _ _ _ (startedIn (ground (a .args .w) (a .args .h) (a .args .blocked .now) (a .args .neighbours .now) (a .args .forced .now)) (a .args .goals .now)) _ (severalPlan (a .args .w) (a .args .h) (a .args .s) (a .args .start) (a .args .goals .now)) _ (c .before .before .before .before .before .before .before .before .before .before .before .before .before .find .ensures) (c .before .before .before .before .before .before .before .before .before .before .before .before .before .before .before .before .before .before .before .before .before .plan .ensures ∙ ap (λ (k : ℕ). planOf (a .args .w) (a .args .h) (a .args .s) (Several k) (a .args .start)) (count-is (length (a .args .goals .now)) _ (sym (c .before .before .before .before .before .before .before .before .before .before .before .before .before .before .before .before .before .before .before .before .before .before .before .before .before .before .before .before .c .given .1) ∙ c .before .before .before .before .before .before .before .before .before .before .before .before .before .before .before .before .before .before .before .before .before .before .before .before .before .before .before .before .before .before .count-goals .ensures) .0)) (several-open (ground (a .args .w) (a .args .h) (a .args .blocked .now) (a .args .neighbours .now) (a .args .forced .now)) (a .args .s) (lengthsOf (a .args .number .now) (a .args .place .now) (a .args .parent .now) (a .args .cost .now) (a .args .keys .now) (a .args .idx .now)) (a .args .start) (a .args .goals .now) (sym (c .before .before .before .before .before .before .before .before .before .before .before .before .before .before .before .before .before .before .before .before .before .before .before .before .before .before .before .before .before .before .before .before .ready .ensures) ∙ not-false _ (c .before .before .before .before .before .before .before .before .before .before .before .before .before .before .before .before .before .before .before .before .before .before .before .before .before .before .before .before .before .before .before .if1 .left)) _ (sym (c .before .before .before .before .before .before .before .before .before .before .before .before .before .before .before .before .before .before .before .before .before .before .before .before .before .before .before .before .c .given .1) ∙ c .before .before .before .before .before .before .before .before .before .before .before .before .before .before .before .before .before .before .before .before .before .before .before .before .before .before .before .before .before .before .count-goals .ensures) (sym (c .before .before .before .before .before .before .before .before .before .before .before .before .before .before .before .before .before .before .before .before .before .before .before .before .before .before .legal .ensures) ∙ not-false _ (c .before .before .before .before .before .before .before .before .before .before .before .before .before .before .before .before .before .before .before .before .before .before .before .before .before .if2 .left)) (sym (c .before .before .before .before .before .before .before .before .before .before .before .before .before .before .before .before .before .before .before .before .before .before .enum-told2 .given .1) ∙ c .before .before .before .before .before .before .before .before .before .before .before .before .before .before .before .before .before .before .before .before .before .before .before .before .first-misplaced .ensures))
 
 pub multiple-goals-spec : {M : Type 1} → statement M
 multiple-goals-spec =
@@ -113,6 +116,7 @@ multiple-goals-spec =
     refused-requires-4
     returns-4
     enum-told-2
+    plan-requires
     find-requires
     same-length
     same-length-2

@@ -4,8 +4,7 @@ use mathlib.Core.Path.{sym, ap, _∙_, subst}
 use borrow.Author.Tests.{not-true, not-false}
 use borrow.Author.Needs.{needs}
 use lib.IntN.{ℤ}
-use Rattle.finder.proofs.Laws.{readPair, pair-read, stopped, handed, roomy, single-legal, single-setting, single-start, single-goal, single-barred, single-open}
-use Rattle.finder.proofs.Laws.{stopped, handed, roomy, single-legal, single-setting, single-start, single-goal, single-barred, single-open}
+use Rattle.finder.proofs.Laws.{readPair, pair-read, stopped, handed, roomy, asked, single-legal, single-setting, single-start, single-goal, single-barred, single-open}
 use Rattle.finder.specs.Find.{ground, lengthsOf, planOf, pairOf, startedIn, singlePlan}
 use Rattle.search.specs.Loop.{Legal}
 use Rattle.goals.specs.declared.Goal.{Goal}
@@ -57,11 +56,14 @@ returns-4 c = let a = c .before .before .before .before .before .before .before 
 kind-of-requires : tie.Need-kind-of-requires
 kind-of-requires c κs = search needs
 
+plan-requires : tie.Need-plan-requires
+plan-requires c κs = search needs
+
 slice-aggregate-find : tie.Need-slice-aggregate-find
 slice-aggregate-find c = search needs
 
 find-requires : tie.Need-find-requires
-find-requires c κs = let a = c .before .before .before .before .before .before .before .before .before .before .before .before .before .before .before .before .before .before .before .before .before .before .before .before .before .before .before .before .before in (subst (λ (l : List ℤ). Legal l (planOf (a .args .w) (a .args .h) (a .args .s) (c .before .before .before .before .before .before .before .before .before .kind-of .result) (a .args .start))) (sym (pair-read (a .args .goal) (sym (c .before .before .before .before .before .before .before .before .before .before .before .before .before .legal2 .ensures) ∙ not-false _ (c .before .before .before .before .before .before .before .before .before .before .before .before .if3 .left)))) (subst (λ (k : Goal). Legal (pairOf (a .args .goal)) (planOf (a .args .w) (a .args .h) (a .args .s) k (a .args .start))) (sym (c .before .before .before .before .before .before .before .before .before .kind-of .ensures)) (single-legal (a .args .w) (a .args .h) (a .args .s) (lengthsOf (a .args .number .now) (a .args .place .now) (a .args .parent .now) (a .args .cost .now) (a .args .keys .now) (a .args .idx .now)) (a .args .start) (a .pre .0) (sym (c .before .before .before .before .before .before .before .before .before .before .before .before .before .before .before .before .before .ready .ensures) ∙ not-false _ (c .before .before .before .before .before .before .before .before .before .before .before .before .before .before .before .before .if1 .left)) (sym (c .before .before .before .before .before .before .before .before .before .before .before .before .before .before .before .legal .ensures) ∙ not-false _ (c .before .before .before .before .before .before .before .before .before .before .before .before .before .before .if2 .left)) (a .args .approximate) (a .args .goal) (sym (c .before .before .before .before .before .before .before .before .before .before .before .before .before .legal2 .ensures) ∙ not-false _ (c .before .before .before .before .before .before .before .before .before .before .before .before .if3 .left)))), (a .pre .1 .0, roomy (a .args .s) _ _ _ _ _ _ _ (sym (c .before .before .before .before .before .before .before .before .before .before .before .before .before .before .before .before .before .ready .ensures) ∙ not-false _ (c .before .before .before .before .before .before .before .before .before .before .before .before .before .before .before .before .if1 .left))))
+find-requires c κs = let a = c .before .before .before .before .before .before .before .before .before .before .before .before .before .before .before .before .before .before .before .before .before .before .before .before .before .before .before .before .before .before in asked _ _ _ _ _ _ _ _ _ _ _ _ (c .before .before .before .before .before .before .before .before .before .plan .ensures) (subst (λ (l : List ℤ). Legal l (planOf (a .args .w) (a .args .h) (a .args .s) (c .before .before .before .before .before .before .before .before .before .before .kind-of .result) (a .args .start))) (sym (pair-read (a .args .goal) (sym (c .before .before .before .before .before .before .before .before .before .before .before .before .before .before .legal2 .ensures) ∙ not-false _ (c .before .before .before .before .before .before .before .before .before .before .before .before .before .if3 .left)))) (subst (λ (k : Goal). Legal (pairOf (a .args .goal)) (planOf (a .args .w) (a .args .h) (a .args .s) k (a .args .start))) (sym (c .before .before .before .before .before .before .before .before .before .before .kind-of .ensures)) (single-legal (a .args .w) (a .args .h) (a .args .s) (lengthsOf (a .args .number .now) (a .args .place .now) (a .args .parent .now) (a .args .cost .now) (a .args .keys .now) (a .args .idx .now)) (a .args .start) (a .pre .0) (sym (c .before .before .before .before .before .before .before .before .before .before .before .before .before .before .before .before .before .before .ready .ensures) ∙ not-false _ (c .before .before .before .before .before .before .before .before .before .before .before .before .before .before .before .before .before .if1 .left)) (sym (c .before .before .before .before .before .before .before .before .before .before .before .before .before .before .before .before .legal .ensures) ∙ not-false _ (c .before .before .before .before .before .before .before .before .before .before .before .before .before .before .before .if2 .left)) (a .args .approximate) (a .args .goal) (sym (c .before .before .before .before .before .before .before .before .before .before .before .before .before .before .legal2 .ensures) ∙ not-false _ (c .before .before .before .before .before .before .before .before .before .before .before .before .before .if3 .left))))) (a .pre .1 .0) (roomy (a .args .s) _ _ _ _ _ _ _ (sym (c .before .before .before .before .before .before .before .before .before .before .before .before .before .before .before .before .before .before .ready .ensures) ∙ not-false _ (c .before .before .before .before .before .before .before .before .before .before .before .before .before .before .before .before .before .if1 .left)))
 
 same-length : tie.Need-same-length
 same-length c = search needs
@@ -85,7 +87,7 @@ same-length-7 : tie.Need-same-length-7
 same-length-7 c = search needs
 
 returns-5 : tie.Need-returns-5
-returns-5 c = let a = c .before .before .before .before .before .before .before .before .before .before .before .before .before .before .before .before .before .before .before .before .before .before .before .before .before .before .before .before .before .before .before .before .before .before .before .before .before .before .before .before .before .before .before in handed _ _ _ _ (startedIn (ground (a .args .w) (a .args .h) (a .args .blocked .now) (a .args .neighbours .now) (a .args .forced .now)) (readPair (a .args .goal))) _ (singlePlan (a .args .w) (a .args .h) (a .args .s) (a .args .approximate) (a .args .start) (a .args .goal)) _ (c .before .before .before .before .before .before .before .before .before .before .before .before .before .find .ensures) (ap (λ (k : Goal). planOf (a .args .w) (a .args .h) (a .args .s) k (a .args .start)) (c .before .before .before .before .before .before .before .before .before .before .before .before .before .before .before .before .before .before .before .before .before .before .before .kind-of .ensures)) (ap (λ (l : List ℤ). startedIn (ground (a .args .w) (a .args .h) (a .args .blocked .now) (a .args .neighbours .now) (a .args .forced .now)) l (singlePlan (a .args .w) (a .args .h) (a .args .s) (a .args .approximate) (a .args .start) (a .args .goal))) (pair-read (a .args .goal) (sym (c .before .before .before .before .before .before .before .before .before .before .before .before .before .before .before .before .before .before .before .before .before .before .before .before .before .before .before .legal2 .ensures) ∙ not-false _ (c .before .before .before .before .before .before .before .before .before .before .before .before .before .before .before .before .before .before .before .before .before .before .before .before .before .before .if3 .left))) ∙ single-open (ground (a .args .w) (a .args .h) (a .args .blocked .now) (a .args .neighbours .now) (a .args .forced .now)) (a .args .links .now) (a .args .s) (lengthsOf (a .args .number .now) (a .args .place .now) (a .args .parent .now) (a .args .cost .now) (a .args .keys .now) (a .args .idx .now)) (a .args .approximate) (a .args .start) (a .args .goal) (sym (c .before .before .before .before .before .before .before .before .before .before .before .before .before .before .before .before .before .before .before .before .before .before .before .before .before .before .before .before .before .before .before .ready .ensures) ∙ not-false _ (c .before .before .before .before .before .before .before .before .before .before .before .before .before .before .before .before .before .before .before .before .before .before .before .before .before .before .before .before .before .before .if1 .left)) (sym (c .before .before .before .before .before .before .before .before .before .before .before .before .before .before .before .before .before .before .before .before .before .before .before .before .before .before .before .before .before .legal .ensures) ∙ not-false _ (c .before .before .before .before .before .before .before .before .before .before .before .before .before .before .before .before .before .before .before .before .before .before .before .before .before .before .before .before .if2 .left)) (sym (c .before .before .before .before .before .before .before .before .before .before .before .before .before .before .before .before .before .before .before .before .before .before .before .before .before .before .before .legal2 .ensures) ∙ not-false _ (c .before .before .before .before .before .before .before .before .before .before .before .before .before .before .before .before .before .before .before .before .before .before .before .before .before .before .if3 .left)) (sym (c .before .before .before .before .before .before .before .before .before .before .before .before .before .before .before .before .before .before .before .before .before .before .before .before .before .barred .ensures) ∙ c .before .before .before .before .before .before .before .before .before .before .before .before .before .before .before .before .before .before .before .before .before .before .before .before .if4 .left))
+returns-5 c = let a = c .before .before .before .before .before .before .before .before .before .before .before .before .before .before .before .before .before .before .before .before .before .before .before .before .before .before .before .before .before .before .before .before .before .before .before .before .before .before .before .before .before .before .before .before in handed _ _ _ _ (startedIn (ground (a .args .w) (a .args .h) (a .args .blocked .now) (a .args .neighbours .now) (a .args .forced .now)) (readPair (a .args .goal))) _ (singlePlan (a .args .w) (a .args .h) (a .args .s) (a .args .approximate) (a .args .start) (a .args .goal)) _ (c .before .before .before .before .before .before .before .before .before .before .before .before .before .find .ensures) (c .before .before .before .before .before .before .before .before .before .before .before .before .before .before .before .before .before .before .before .before .before .before .before .plan .ensures ∙ ap (λ (k : Goal). planOf (a .args .w) (a .args .h) (a .args .s) k (a .args .start)) (c .before .before .before .before .before .before .before .before .before .before .before .before .before .before .before .before .before .before .before .before .before .before .before .before .kind-of .ensures)) (ap (λ (l : List ℤ). startedIn (ground (a .args .w) (a .args .h) (a .args .blocked .now) (a .args .neighbours .now) (a .args .forced .now)) l (singlePlan (a .args .w) (a .args .h) (a .args .s) (a .args .approximate) (a .args .start) (a .args .goal))) (pair-read (a .args .goal) (sym (c .before .before .before .before .before .before .before .before .before .before .before .before .before .before .before .before .before .before .before .before .before .before .before .before .before .before .before .before .legal2 .ensures) ∙ not-false _ (c .before .before .before .before .before .before .before .before .before .before .before .before .before .before .before .before .before .before .before .before .before .before .before .before .before .before .before .if3 .left))) ∙ single-open (ground (a .args .w) (a .args .h) (a .args .blocked .now) (a .args .neighbours .now) (a .args .forced .now)) (a .args .links .now) (a .args .s) (lengthsOf (a .args .number .now) (a .args .place .now) (a .args .parent .now) (a .args .cost .now) (a .args .keys .now) (a .args .idx .now)) (a .args .approximate) (a .args .start) (a .args .goal) (sym (c .before .before .before .before .before .before .before .before .before .before .before .before .before .before .before .before .before .before .before .before .before .before .before .before .before .before .before .before .before .before .before .before .ready .ensures) ∙ not-false _ (c .before .before .before .before .before .before .before .before .before .before .before .before .before .before .before .before .before .before .before .before .before .before .before .before .before .before .before .before .before .before .before .if1 .left)) (sym (c .before .before .before .before .before .before .before .before .before .before .before .before .before .before .before .before .before .before .before .before .before .before .before .before .before .before .before .before .before .before .legal .ensures) ∙ not-false _ (c .before .before .before .before .before .before .before .before .before .before .before .before .before .before .before .before .before .before .before .before .before .before .before .before .before .before .before .before .before .if2 .left)) (sym (c .before .before .before .before .before .before .before .before .before .before .before .before .before .before .before .before .before .before .before .before .before .before .before .before .before .before .before .before .legal2 .ensures) ∙ not-false _ (c .before .before .before .before .before .before .before .before .before .before .before .before .before .before .before .before .before .before .before .before .before .before .before .before .before .before .before .if3 .left)) (sym (c .before .before .before .before .before .before .before .before .before .before .before .before .before .before .before .before .before .before .before .before .before .before .before .before .before .before .barred .ensures) ∙ c .before .before .before .before .before .before .before .before .before .before .before .before .before .before .before .before .before .before .before .before .before .before .before .before .before .if4 .left))
 
 pub single-goal-spec : {M : Type 1} → statement M
 single-goal-spec =
@@ -106,6 +108,7 @@ single-goal-spec =
     refused-requires-4
     returns-4
     kind-of-requires
+    plan-requires
     slice-aggregate-find
     find-requires
     same-length

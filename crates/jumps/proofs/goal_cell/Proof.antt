@@ -4,7 +4,6 @@ use Prim.Native.Nat.{ℕ, _*_, _≤_, _<_}
 use native.Mathlib.Omega.{arith}
 use borrow.Author.Needs.{needs}
 use Rattle.cells.proofs.Cell.{area}
-use Rattle.jumps.specs.Floor.{targetOf}
 use Rattle.jumps.proofs.goal_cell.Statement.{statement}
 use Rattle.jumps.proofs.goal_cell.Tie as tie
 

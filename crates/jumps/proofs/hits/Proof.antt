@@ -25,7 +25,7 @@ returns : tie.Need-returns
 returns c = rw (← c .before .point-of .ensures) (c .is-goal .ensures)
 
 returns-2 : tie.Need-returns-2
-returns-2 c = let f = c .before .pre in rw (f .1 .1 .1 .0) (target-is _ _ _ (f .1 .1 .1 .1) (omega (arith, c .if1 .left, f .1 .1 .1 .0)))
+returns-2 c = let f = c .before .pre in target-is _ _ _ (f .1 .1 .1 .1) (f .1 .1 .1 .0) (omega (arith, c .if1 .left))
 
 pub hits-spec : {M : Type 1} → statement M
 hits-spec = tie.close (tie.spec mul-if1 point-of-requires is-goal-requires returns returns-2)

@@ -8,10 +8,10 @@ use Rattle.jumps.proofs.sees_aside.Statement.{statement}
 use Rattle.jumps.proofs.sees_aside.Tie as tie
 
 abbrev Inv-loop : tie.InvT-loop
-Inv-loop blocked forced goals p target d x y last turn₀ turn = Aside (sees blocked forced goals p d x y) (p .settings .diagonal) (sidesOf blocked forced goals p d x y) turn
+Inv-loop blocked forced goals p d x y last turn₀ turn = Aside (sees blocked forced goals p d x y) (p .settings .diagonal) (sidesOf blocked forced goals p d x y) turn
 
 abbrev μ-loop : tie.MeasureT-loop
-μ-loop blocked forced goals p target d x y last turn₀ turn = 3 - turn
+μ-loop blocked forced goals p d x y last turn₀ turn = 3 - turn
 
 cast-last : tie.Need-cast-last Inv-loop μ-loop
 cast-last c = search needs

@@ -8,16 +8,16 @@ use Rattle.jumps.specs.Floor.{stopsAt, stopsIn, runOn, isAt, seesOn}
 use Rattle.jumps.proofs.Laws.{place-lt, placed}
 use Rattle.jumps.proofs.Going.{moves, start, nothing, here}
 use Rattle.jumps.proofs.Targets.{stops-in}
-use Rattle.jumps.proofs.Steps.{Numbered, next-in, next-out, next-is, next-here, next-fits, next-low, next-blocked, next-free, next-on}
+use Rattle.jumps.proofs.Steps.{Looking, next-in, next-out, next-is, next-here, next-fits, next-low, next-blocked, next-free, next-on}
 use Rattle.jumps.proofs.sees_on.Statement.{statement}
 use Rattle.jumps.proofs.sees_on.Tie as tie
 
 abbrev Inv-loop : tie.InvT-loop
-Inv-loop blocked forced goals p target d x y w ox oy step left₀ i₀ left i =
-    Numbered blocked (p .w) (p .h) (stopsAt forced goals p d) ox oy (runOn blocked p (stopsAt forced goals p d) d 70 x y 1) left i
+Inv-loop blocked forced goals p d x y w ox oy step left₀ i₀ left i =
+    Looking blocked (p .w) (p .h) (stopsAt forced goals p d) ox oy 70 (runOn blocked p (stopsAt forced goals p d) d 70 x y 1) left i
 
 abbrev μ-loop : tie.MeasureT-loop
-μ-loop blocked forced goals p target d x y w ox oy step left₀ i₀ left i = left
+μ-loop blocked forced goals p d x y w ox oy step left₀ i₀ left i = left
 
 off-x-requires : tie.Need-off-x-requires Inv-loop μ-loop
 off-x-requires c κs = search needs
@@ -35,7 +35,7 @@ reach-requires : tie.Need-reach-requires Inv-loop μ-loop
 reach-requires c κs = search needs
 
 number-requires : tie.Need-number-requires Inv-loop μ-loop
-number-requires c κs = let f = c .before .before .before .before .before .pre in placed (f .0 .sized .wide) (f .0 .sized .high) (f .1 .0)
+number-requires c κs = let f = c .before .before .before .before .before .pre in placed (f .0 .sized .wide) (f .0 .sized .high) (f .1)
 
 loop-holds : tie.Need-loop-holds Inv-loop μ-loop
 loop-holds c =
@@ -43,33 +43,36 @@ loop-holds c =
     record {
       x = c .before .before .before .before .before .before .args .x;
       y = c .before .before .before .before .before .before .args .y;
-      looking = record { cost = 1; going = start _ _ _ _ _ _ _ _ _ _ _ (f .1 .0) (f .0 .sized .wide) (f .0 .sized .high) (omega arith) (rw (c .before .before .before .off-x .ensures .0, c .before .before .off-y .ensures .0)) };
-      here = c .number .ensures;
-      ahead = c .before .reach .ensures;
+      cost = 1;
+      numbered = record {
+        going = start _ _ _ _ _ _ _ _ _ _ _ (f .1) (f .0 .sized .wide) (f .0 .sized .high) (omega arith) (rw (c .before .before .before .off-x .ensures .0, c .before .before .off-y .ensures .0));
+        here = c .number .ensures;
+        ahead = c .before .reach .ensures;
+      };
     }
 
 add-i : tie.Need-add-i Inv-loop μ-loop
-add-i c = let f = c .before .before .before .before .before .before .before .before .pre .0 .sized in omega (arith, next-is _ _ _ _ _ _ _ _ _ (moves _ _ _ (c .before .before .before .before .before .off-x .ensures .0) (c .before .before .before .before .off-y .ensures .0)) (c .before .loop .inv) (c .loop-test .taken), place-lt (next-in _ _ _ _ _ _ _ _ _ (moves _ _ _ (c .before .before .before .before .before .off-x .ensures .0) (c .before .before .before .before .off-y .ensures .0)) (c .before .loop .inv) (c .loop-test .taken)), mul-le-mul (f .high) (f .wide), f .wide)
+add-i c = let f = c .before .before .before .before .before .before .before .before .pre .0 .sized in omega (arith, next-is _ _ _ _ _ _ _ _ _ _ _ _ _ (moves _ _ _ (c .before .before .before .before .before .off-x .ensures .0) (c .before .before .before .before .off-y .ensures .0)) (c .before .loop .inv .numbered) (c .loop-test .taken), place-lt (next-in _ _ _ _ _ _ _ _ _ _ _ _ _ (moves _ _ _ (c .before .before .before .before .before .off-x .ensures .0) (c .before .before .before .before .off-y .ensures .0)) (c .before .loop .inv .numbered) (c .loop-test .taken)), mul-le-mul (f .high) (f .wide), f .wide)
 
 add-i-2 : tie.Need-add-i-2 Inv-loop μ-loop
 add-i-2 c = search needs
 
 sub-i : tie.Need-sub-i Inv-loop μ-loop
-sub-i c = next-fits _ _ _ _ _ _ _ _ _ (moves _ _ _ (c .before .before .before .before .before .off-x .ensures .0) (c .before .before .before .before .off-y .ensures .0)) (c .before .loop .inv) (c .loop-test .taken)
+sub-i c = next-fits _ _ _ _ _ _ _ _ _ _ _ _ _ (moves _ _ _ (c .before .before .before .before .before .off-x .ensures .0) (c .before .before .before .before .off-y .ensures .0)) (c .before .loop .inv .numbered) (c .loop-test .taken)
 
 shared-slice-read-if1 : tie.Need-shared-slice-read-if1 Inv-loop μ-loop
-shared-slice-read-if1 c = omega (arith, next-low _ _ _ _ _ _ _ _ _ (moves _ _ _ (c .before .before .before .before .before .before .off-x .ensures .0) (c .before .before .before .before .before .off-y .ensures .0)) (c .before .before .loop .inv) (c .before .loop-test .taken), c .before .before .before .before .before .before .before .before .before .pre .0 .sized .size)
+shared-slice-read-if1 c = omega (arith, next-low _ _ _ _ _ _ _ _ _ _ _ _ _ (moves _ _ _ (c .before .before .before .before .before .before .off-x .ensures .0) (c .before .before .before .before .before .off-y .ensures .0)) (c .before .before .loop .inv .numbered) (c .before .loop-test .taken), c .before .before .before .before .before .before .before .before .before .pre .0 .sized .size)
 
 returns : tie.Need-returns Inv-loop μ-loop
 unfolding seesOn
-returns c = ap isAt (nothing _ _ _ _ _ _ _ _ _ _ _ (moves _ _ _ (c .before .before .before .before .before .before .before .off-x .ensures .0) (c .before .before .before .before .before .before .off-y .ensures .0)) (c .before .before .before .loop .inv .looking .going) (next-blocked _ _ _ _ _ _ _ _ _ (moves _ _ _ (c .before .before .before .before .before .before .before .off-x .ensures .0) (c .before .before .before .before .before .before .off-y .ensures .0)) (c .before .before .before .loop .inv) (c .before .before .loop-test .taken) (c .if1 .taken)))
+returns c = ap isAt (nothing _ _ _ _ _ _ _ _ _ _ _ (moves _ _ _ (c .before .before .before .before .before .before .before .off-x .ensures .0) (c .before .before .before .before .before .before .off-y .ensures .0)) (c .before .before .before .loop .inv .numbered .going) (next-blocked _ _ _ _ _ _ _ _ _ _ _ _ _ (moves _ _ _ (c .before .before .before .before .before .before .before .off-x .ensures .0) (c .before .before .before .before .before .before .off-y .ensures .0)) (c .before .before .before .loop .inv .numbered) (c .before .before .loop-test .taken) (c .if1 .taken)))
 
 stops-in-requires : tie.Need-stops-in-requires Inv-loop μ-loop
-stops-in-requires c κs = let f = c .before .before .before .before .before .before .before .before .before .before .pre in (f .0 .sized-forced, (f .0 .aimed, (f .1 .1, next-low _ _ _ _ _ _ _ _ _ (moves _ _ _ (c .before .before .before .before .before .before .before .off-x .ensures .0) (c .before .before .before .before .before .before .off-y .ensures .0)) (c .before .before .before .loop .inv) (c .before .before .loop-test .taken))))
+stops-in-requires c κs = let f = c .before .before .before .before .before .before .before .before .before .before .pre in (f .0 .sized-forced, (f .0 .aimed, (f .0 .marked, next-low _ _ _ _ _ _ _ _ _ _ _ _ _ (moves _ _ _ (c .before .before .before .before .before .before .before .off-x .ensures .0) (c .before .before .before .before .before .before .off-y .ensures .0)) (c .before .before .before .loop .inv .numbered) (c .before .before .loop-test .taken))))
 
 returns-2 : tie.Need-returns-2 Inv-loop μ-loop
 unfolding seesOn
-returns-2 c = ap isAt (here _ _ _ _ _ _ _ _ _ _ _ (moves _ _ _ (c .before .before .before .before .before .before .before .before .before .off-x .ensures .0) (c .before .before .before .before .before .before .before .before .off-y .ensures .0)) (c .before .before .before .before .before .loop .inv .looking .going) (next-free _ _ _ _ _ _ _ _ _ (moves _ _ _ (c .before .before .before .before .before .before .before .before .before .off-x .ensures .0) (c .before .before .before .before .before .before .before .before .off-y .ensures .0)) (c .before .before .before .before .before .loop .inv) (c .before .before .before .before .loop-test .taken) (c .before .before .if1 .left)) (sym (stops-in _ _ _ _ (next-in _ _ _ _ _ _ _ _ _ (moves _ _ _ (c .before .before .before .before .before .before .before .before .before .off-x .ensures .0) (c .before .before .before .before .before .before .before .before .off-y .ensures .0)) (c .before .before .before .before .before .loop .inv) (c .before .before .before .before .loop-test .taken))) ∙ ap (stopsIn _ _ _ _) (sym (next-here _ _ _ _ _ _ _ _ _ (moves _ _ _ (c .before .before .before .before .before .before .before .before .before .off-x .ensures .0) (c .before .before .before .before .before .before .before .before .off-y .ensures .0)) (c .before .before .before .before .before .loop .inv) (c .before .before .before .before .loop-test .taken))) ∙ sym (c .before .stops-in .ensures) ∙ c .if2 .taken))
+returns-2 c = ap isAt (here _ _ _ _ _ _ _ _ _ _ _ (moves _ _ _ (c .before .before .before .before .before .before .before .before .before .off-x .ensures .0) (c .before .before .before .before .before .before .before .before .off-y .ensures .0)) (c .before .before .before .before .before .loop .inv .numbered .going) (next-free _ _ _ _ _ _ _ _ _ _ _ _ _ (moves _ _ _ (c .before .before .before .before .before .before .before .before .before .off-x .ensures .0) (c .before .before .before .before .before .before .before .before .off-y .ensures .0)) (c .before .before .before .before .before .loop .inv .numbered) (c .before .before .before .before .loop-test .taken) (c .before .before .if1 .left)) (sym (stops-in _ _ _ _ (next-in _ _ _ _ _ _ _ _ _ _ _ _ _ (moves _ _ _ (c .before .before .before .before .before .before .before .before .before .off-x .ensures .0) (c .before .before .before .before .before .before .before .before .off-y .ensures .0)) (c .before .before .before .before .before .loop .inv .numbered) (c .before .before .before .before .loop-test .taken))) ∙ ap (stopsIn _ _ _ _) (sym (next-here _ _ _ _ _ _ _ _ _ _ _ _ _ (moves _ _ _ (c .before .before .before .before .before .before .before .before .before .off-x .ensures .0) (c .before .before .before .before .before .before .before .before .off-y .ensures .0)) (c .before .before .before .before .before .loop .inv .numbered) (c .before .before .before .before .loop-test .taken))) ∙ sym (c .before .stops-in .ensures) ∙ c .if2 .taken))
 
 sub-left : tie.Need-sub-left Inv-loop μ-loop
 sub-left c = search needs
@@ -78,11 +81,11 @@ loop-less : tie.Need-loop-less Inv-loop μ-loop
 loop-less c = search needs
 
 loop-again : tie.Need-loop-again Inv-loop μ-loop
-loop-again c = next-on _ _ _ _ _ _ _ _ _ (moves _ _ _ (c .before .before .before .before .before .before .before .before .before .off-x .ensures .0) (c .before .before .before .before .before .before .before .before .off-y .ensures .0)) (c .before .before .before .before .before .loop .inv) (c .before .before .before .before .loop-test .taken) (next-free _ _ _ _ _ _ _ _ _ (moves _ _ _ (c .before .before .before .before .before .before .before .before .before .off-x .ensures .0) (c .before .before .before .before .before .before .before .before .off-y .ensures .0)) (c .before .before .before .before .before .loop .inv) (c .before .before .before .before .loop-test .taken) (c .before .before .if1 .left)) (sym (stops-in _ _ _ _ (next-in _ _ _ _ _ _ _ _ _ (moves _ _ _ (c .before .before .before .before .before .before .before .before .before .off-x .ensures .0) (c .before .before .before .before .before .before .before .before .off-y .ensures .0)) (c .before .before .before .before .before .loop .inv) (c .before .before .before .before .loop-test .taken))) ∙ ap (stopsIn _ _ _ _) (sym (next-here _ _ _ _ _ _ _ _ _ (moves _ _ _ (c .before .before .before .before .before .before .before .before .before .off-x .ensures .0) (c .before .before .before .before .before .before .before .before .off-y .ensures .0)) (c .before .before .before .before .before .loop .inv) (c .before .before .before .before .loop-test .taken))) ∙ sym (c .before .stops-in .ensures) ∙ c .if2 .left)
+loop-again c = record { x = _; y = _; cost = _; numbered = next-on _ _ _ _ _ _ _ _ _ _ _ _ _ (moves _ _ _ (c .before .before .before .before .before .before .before .before .before .off-x .ensures .0) (c .before .before .before .before .before .before .before .before .off-y .ensures .0)) (c .before .before .before .before .before .loop .inv .numbered) (c .before .before .before .before .loop-test .taken) (omega arith) (next-free _ _ _ _ _ _ _ _ _ _ _ _ _ (moves _ _ _ (c .before .before .before .before .before .before .before .before .before .off-x .ensures .0) (c .before .before .before .before .before .before .before .before .off-y .ensures .0)) (c .before .before .before .before .before .loop .inv .numbered) (c .before .before .before .before .loop-test .taken) (c .before .before .if1 .left)) (sym (stops-in _ _ _ _ (next-in _ _ _ _ _ _ _ _ _ _ _ _ _ (moves _ _ _ (c .before .before .before .before .before .before .before .before .before .off-x .ensures .0) (c .before .before .before .before .before .before .before .before .off-y .ensures .0)) (c .before .before .before .before .before .loop .inv .numbered) (c .before .before .before .before .loop-test .taken))) ∙ ap (stopsIn _ _ _ _) (sym (next-here _ _ _ _ _ _ _ _ _ _ _ _ _ (moves _ _ _ (c .before .before .before .before .before .before .before .before .before .off-x .ensures .0) (c .before .before .before .before .before .before .before .before .off-y .ensures .0)) (c .before .before .before .before .before .loop .inv .numbered) (c .before .before .before .before .loop-test .taken))) ∙ sym (c .before .stops-in .ensures) ∙ c .if2 .left) }
 
 returns-3 : tie.Need-returns-3 Inv-loop μ-loop
 unfolding seesOn
-returns-3 c = ap isAt (nothing _ _ _ _ _ _ _ _ _ _ _ (moves _ _ _ (c .before .before .before .before .before .off-x .ensures .0) (c .before .before .before .before .off-y .ensures .0)) (c .before .loop .inv .looking .going) (next-out _ _ _ _ _ _ _ _ _ (moves _ _ _ (c .before .before .before .before .before .off-x .ensures .0) (c .before .before .before .before .off-y .ensures .0)) (c .before .loop .inv) (omega (arith, c .loop-test .left))))
+returns-3 c = ap isAt (nothing _ _ _ _ _ _ _ _ _ _ _ (moves _ _ _ (c .before .before .before .before .before .off-x .ensures .0) (c .before .before .before .before .off-y .ensures .0)) (c .before .loop .inv .numbered .going) (next-out _ _ _ _ _ _ _ _ _ _ _ _ _ (moves _ _ _ (c .before .before .before .before .before .off-x .ensures .0) (c .before .before .before .before .off-y .ensures .0)) (c .before .loop .inv .numbered) (omega (arith, c .loop-test .left))))
 
 pub sees-on-spec : {M : Type 1} → statement M
 sees-on-spec =

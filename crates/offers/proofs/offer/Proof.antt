@@ -1,13 +1,18 @@
 -- `offers::offer` meets its contract: by what recording says, an offer is refused, pushed or left. Assumes nothing.
-use mathlib.Core.Path.{_∙_}
+use mathlib.Core.Path.{_≡_, sym, _∙_, ap, subst}
+use lib.Dec.{T}
+use Rattle.points.specs.declared.Point.{Point}
+use Rattle.points.specs.Plane.{legal}
+use Rattle.goals.specs.Goals.{guessOf}
+use Rattle.offers.specs.Search.{guessAt}
 use native.Mathlib.Omega.{arith}
-use Rattle.offers.proofs.Laws.{able, cell-in, places-low, index-small, offer-full, offer-pushed, offer-left}
+use Rattle.offers.proofs.Laws.{able, cell-in, cell-legal, places-low, index-small, offer-full, offer-pushed, offer-left}
 use borrow.Author.Needs.{needs}
 use Rattle.offers.proofs.offer.Statement.{statement}
 use Rattle.offers.proofs.offer.Tie as tie
 
 note-requires : tie.Need-note-requires
-note-requires c κs = let a = c .before .before .before .before .before .before .before .before .before .before in able (a .pre .0) _ _ (a .pre .1 .0) (a .pre .1 .1 .0)
+note-requires c κs = let a = c .before .before .before .before .before .before .before .before .before .before in able (a .pre .0) _ _ (a .pre .1 .0) (a .pre .1 .1 .1 .0)
 
 same-length : tie.Need-same-length
 same-length c = search needs
@@ -24,8 +29,10 @@ same-length-4 c = search needs
 returns : tie.Need-returns
 returns c = offer-full _ _ _ _ _ _ _ (c .before .before .before .before .before .before .before .before .before .before .note .ensures) (c .before .if1 .taken) (c .if2 .taken)
 
-guess-at-requires : tie.Need-guess-at-requires
-guess-at-requires c κs = search needs
+guess-requires : tie.Need-guess-requires
+guess-requires c κs =
+    let a = c .before .before .before .before .before .before .before .before .before .before .before .before .before .before .before .before .before .before .before .before .before in
+    (a .pre .0 .aimed, subst (λ (x : Point). T (legal x)) (sym (a .pre .1 .1 .0)) (cell-legal (a .args .p) (a .args .cell) (a .pre .0 .sides) (a .pre .1 .0)))
 
 add-key-of : tie.Need-add-key-of
 add-key-of c = search needs
@@ -42,8 +49,8 @@ cast-push c =
 push-requires : tie.Need-push-requires
 push-requires c κs = search needs
 
-add-t39 : tie.Need-add-t39
-add-t39 c = let a = c .before .before .before .before .before .before .before .before .before .before .before .before .before .before .before .before .before .before .before .before .before .before .before .before .before .before .before .before .before .before in omega (arith, a .pre .0 .keys-long, c .before .before .before .before .before .before .before .before .before .if2 .left, a .good)
+add-t40 : tie.Need-add-t40
+add-t40 c = let a = c .before .before .before .before .before .before .before .before .before .before .before .before .before .before .before .before .before .before .before .before .before .before .before .before .before .before .before .before .before .before in omega (arith, a .pre .0 .keys-long, c .before .before .before .before .before .before .before .before .before .if2 .left, a .good)
 
 same-length-5 : tie.Need-same-length-5
 same-length-5 c = search needs
@@ -63,10 +70,17 @@ same-length-9 c = search needs
 same-length-10 : tie.Need-same-length-10
 same-length-10 c = search needs
 
+-- what was guessed at the cell's point
+guessed : (c : tie.After-guess) → let a = c .before .before .before .before .before .before .before .before .before .before .before .before .before .before .before .before .before .before .before .before .before .before in c .guess .result ≡ guessAt (a .args .goals .now) (a .args .p) (a .args .cell)
+unfolding guessAt
+guessed c =
+    let a = c .before .before .before .before .before .before .before .before .before .before .before .before .before .before .before .before .before .before .before .before .before .before in
+    c .guess .ensures .0 ∙ ap (guessOf (a .args .goals .now) (a .args .p)) (a .pre .1 .1 .0)
+
 returns-2 : tie.Need-returns-2
 returns-2 c =
     offer-pushed _ _ _ _ _ _ _ (c .before .before .before .before .before .before .before .before .before .before .before .before .before .before .before .before .before .before .before .note .ensures) _ (c .before .before .before .before .before .before .before .before .before .before .if1 .taken) (c .before .before .before .before .before .before .before .before .before .if2 .left)
-    (c .before .before .before .before .push .ensures .0 ∙ rw (c .before .before .before .before .before .before .before .key-of .ensures, c .before .before .before .before .before .before .before .before .guess-at .ensures .0))
+    (c .before .before .before .before .push .ensures .0 ∙ rw (c .before .before .before .before .before .before .before .key-of .ensures, guessed (c .before .before .before .before .before .before .before .before)))
 
 same-length-11 : tie.Need-same-length-11
 same-length-11 c = search needs
@@ -93,12 +107,12 @@ offer-spec =
     same-length-3
     same-length-4
     returns
-    guess-at-requires
+    guess-requires
     add-key-of
     key-of-requires
     cast-push
     push-requires
-    add-t39
+    add-t40
     same-length-5
     same-length-6
     same-length-7

@@ -2,6 +2,7 @@
 use borrow.Author.Needs.{needs}
 use native.Mathlib.Omega.{arith}
 use mathlib.Core.Path.{sym, _∙_}
+use Rattle.offers.proofs.Laws.{cell-numbered}
 use Rattle.expansion.proofs.Starts.{neighbour-lt, toward-none, toward-at}
 use Rattle.expansion.proofs.start.toward.Statement.{statement}
 use Rattle.expansion.proofs.start.toward.Tie as tie
@@ -21,11 +22,18 @@ returns c = toward-none _ _ _ _ _ _ _ (sym (c .enum-told .given .1) ∙ c .befor
 price-of-requires : tie.Need-price-of-requires
 price-of-requires c κs = search needs
 
+point-of-requires : tie.Need-point-of-requires
+point-of-requires c κs =
+    let f = c .before .before .before .before .before .before .before .before .before .before .before .before .pre in
+    cell-numbered _ _ (f .0 .sides) (neighbour-lt _ _ _ _ (sym (sym (c .before .before .cell .given .1) ∙ c .before .before .before .before .neighbour-at .ensures)))
+
 add-offer : tie.Need-add-offer
-add-offer c = omega (arith, c .before .before .before .before .before .before .price-of .ensures, c .before .before .before .before .before .before .before .before .before .before .before .before .before .before .before .before .before .before .pre .1 .1 .1 .1)
+add-offer c = omega (arith, c .before .before .before .before .before .before .before .price-of .ensures, c .before .before .before .before .before .before .before .before .before .before .before .before .before .before .before .before .before .before .before .pre .1 .1 .1 .1)
 
 offer-requires : tie.Need-offer-requires
-offer-requires c κs = let f = c .before .before .before .before .before .before .before .before .before .before .before .before .before .before .before .before .before .before .pre in (f .0, (neighbour-lt _ _ _ _ (sym (sym (c .before .before .before .before .before .before .before .before .cell .given .1) ∙ c .before .before .before .before .before .before .before .before .before .before .neighbour-at .ensures)), (f .1 .1 .1 .0, omega (arith, c .before .before .before .before .before .before .price-of .ensures, f .1 .1 .1 .1))))
+offer-requires c κs =
+    let f = c .before .before .before .before .before .before .before .before .before .before .before .before .before .before .before .before .before .before .before .pre in
+    (f .0, (neighbour-lt _ _ _ _ (sym (sym (c .before .before .before .before .before .before .before .before .before .cell .given .1) ∙ c .before .before .before .before .before .before .before .before .before .before .before .neighbour-at .ensures)), (c .before .before .before .before .before .before .point-of .ensures, (f .1 .1 .1 .0, omega (arith, c .before .before .before .before .before .before .before .price-of .ensures, f .1 .1 .1 .1)))))
 
 same-length : tie.Need-same-length
 same-length c = c .before .before .before .before .before .before .before .before .before .before .before .before .offer .kept .0
@@ -46,7 +54,7 @@ same-length-6 : tie.Need-same-length-6
 same-length-6 c = c .before .before .before .before .before .before .before .before .before .before .before .before .offer .kept .1 .1 .1 .1 .1 .0
 
 returns-2 : tie.Need-returns-2
-returns-2 c = c .before .before .before .before .before .before .before .before .before .before .before .before .offer .ensures ∙ toward-at _ _ _ _ _ _ _ _ _ (sym (c .before .before .before .before .before .before .before .before .before .before .before .before .before .before .before .before .before .before .before .before .before .cell .given .1) ∙ c .before .before .before .before .before .before .before .before .before .before .before .before .before .before .before .before .before .before .before .before .before .before .before .neighbour-at .ensures) (c .before .before .before .before .before .before .before .before .before .before .before .before .before .before .before .before .before .before .before .price-of .ensures)
+returns-2 c = c .before .before .before .before .before .before .before .before .before .before .before .before .offer .ensures ∙ toward-at _ _ _ _ _ _ _ _ _ (sym (c .before .before .before .before .before .before .before .before .before .before .before .before .before .before .before .before .before .before .before .before .before .before .cell .given .1) ∙ c .before .before .before .before .before .before .before .before .before .before .before .before .before .before .before .before .before .before .before .before .before .before .before .before .neighbour-at .ensures) (c .before .before .before .before .before .before .before .before .before .before .before .before .before .before .before .before .before .before .before .before .price-of .ensures)
 
 pub toward-spec : {M : Type 1} → statement M
 toward-spec =
@@ -57,6 +65,7 @@ toward-spec =
     enum-told
     returns
     price-of-requires
+    point-of-requires
     add-offer
     offer-requires
     same-length
