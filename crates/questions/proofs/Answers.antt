@@ -7,7 +7,7 @@ use native.Mathlib.Numerals.{add-one}
 use lib.ListN.{length, getD, drop, drop-of-length-le}
 use lib.Seq.{drop-cons}
 use lib.Dec.{eqb}
-use borrow.Author.Tests.{lt-ltb, le-ltb, le-leb, lt-leb}
+use borrow.Author.Tests.{lt-ltb, le-ltb, le-leb, lt-leb, eq-eqb}
 use Rattle.components.specs.Components.{rootOf}
 use Rattle.cells.specs.Cells.{cellTo}
 use Rattle.tables.specs.Tables.{around}
@@ -25,9 +25,18 @@ pub reach-out : (n : ℕ) (p : List ℕ) (a c : ℕ) → n ≤ a → false ≡ r
 unfolding reachableOf
 reach-out n p a c h = rw (le-ltb a n h)
 
-pub reach-in : (n : ℕ) (p : List ℕ) (a c r : ℕ) (t : Bool) → a < n → r ≡ rootOf p a → t ≡ rootedOf n p r c → t ≡ reachableOf n p a c
-unfolding reachableOf
-reach-in n p a c r t h e q = rw (lt-ltb a n h, ← e) q
+module _ (n : ℕ) (p : List ℕ) (a c : ℕ) (h : a < n) where
+  pub reach-past : n ≤ c → false ≡ reachableOf n p a c
+  unfolding reachableOf rootedOf
+  reach-past g = rw (lt-ltb a n h, le-ltb c n g)
+
+  pub reach-in : (r s : ℕ) → c < n → r ≡ rootOf p a → s ≡ rootOf p c → eqb r s ≡ reachableOf n p a c
+  unfolding reachableOf rootedOf
+  reach-in r s g e f = rw (lt-ltb a n h, lt-ltb c n g, e, f)
+
+  pub reach-one : c < n → rootOf p a ≡ rootOf p c → true ≡ reachableOf n p a c
+  unfolding reachableOf rootedOf
+  reach-one g e = rw (lt-ltb a n h, lt-ltb c n g, eq-eqb (rootOf p a) (rootOf p c) e)
 
 module _ (w h : ℕ) (p : List ℕ) (r x y : ℕ) (ds : List ℕ) (k : ℕ) where
   near-step : k < length ds → nearAlong w h p r x y (drop k ds) ≡ rootedOf (w * h) p r (cellTo w h x y (getD ds k 0)) || nearAlong w h p r x y (drop (k + 1) ds)

@@ -18,7 +18,7 @@ fn rooted(parent: &[u16], rank: &[u8], n: usize, r: usize, c: usize) -> bool
     r == components::find(parent, rank, n, c)
 }
 
-// Whether two cells share a component. No where one is outside.
+// Whether two cells share a component. No where one is outside. Two with one parent do: the usual case after a rebuild, and no walk.
 pub fn reachable(parent: &[u16], rank: &[u8], n: usize, a: usize, c: usize) -> bool
     requires { ⌜ Forest 200 n (now parent) (now rank) ⌝ }
     ensures { λ r. ⌜ r ≡ reachableOf n (now (parent .entry)) a c ⌝ }
@@ -26,8 +26,14 @@ pub fn reachable(parent: &[u16], rank: &[u8], n: usize, a: usize, c: usize) -> b
     if n <= a {
         return false;
     }
+    if n <= c {
+        return false;
+    }
+    if parent[a] == parent[c] {
+        return true;
+    }
     let root = components::find(parent, rank, n, a);
-    rooted(parent, rank, n, root, c)
+    root == components::find(parent, rank, n, c)
 }
 
 // Whether they do not. Yes where one is outside.
