@@ -13,7 +13,7 @@ use lib.Dec.{ltb, leb, eqb}
 use lib.ListN.{getD, set, length}
 use lib.Seq.{getD-set-same, getD-set-other}
 use Rattle.masks.specs.Masks.{bitAt, maskTo, forcedBit, forcedOf}
-use Rattle.cells.specs.Cells.{withBit, cellAt, cellTo, touched, touchedTo, masksAfter, freeBit, maskOf, maskAt, newBlocked, newMasks, MasksRight}
+use Rattle.cells.specs.Cells.{withBit, cellAt, cellTo, touched, touchedTo, masksAfter, freeBit, fillTo, maskOf, maskAt, MasksRight}
 use Rattle.points.proofs.Eight.{by-eight}
 use Rattle.points.specs.Compass.{offX, offY}
 use Rattle.cells.proofs.Small.{bit-with, with-bit-small, mask-bits}
@@ -234,13 +234,13 @@ pub free-out : (w h : ℕ) (blocked : List ℕ) (x y d i : ℕ) → i ≡ cellTo
 unfolding freeBit
 free-out w h blocked x y d i e le = rw (← e, le-ltb i (w * h) le)
 
--- a new grid's masks are what its cells give
-pub new-right : (w h : ℕ) (blocked neighbours : List ℕ) → 0 < w → w * h ≤ length neighbours → MasksRight w h (newBlocked w h blocked) (newMasks w h blocked neighbours)
+-- masks that were worked out from the cells are what the cells give
+pub fill-right : (w h : ℕ) (blocked neighbours : List ℕ) → 0 < w → w * h ≤ length neighbours → MasksRight w h blocked (fillTo (maskAt w h blocked) neighbours (w * h))
 unfolding MasksRight
-new-right w h blocked neighbours hw hl x y hx hy =
+fill-right w h blocked neighbours hw hl x y hx hy =
     let a : (y * w + x) % w ≡ x = mul-add-mod-self-right y w x ∙ mod-eq-of-lt hx in
     let b : (y * w + x) / w ≡ y = rw (add-comm (y * w) x, add-mul-div-right x y hw, div-eq-of-lt hx, zero-add) in
-    get-fillTo (maskAt w h (newBlocked w h blocked)) neighbours (w * h) (y * w + x) (cell-lt w h x y hx hy) hl ∙ rw (a, b)
+    get-fillTo (maskAt w h blocked) neighbours (w * h) (y * w + x) (cell-lt w h x y hx hy) hl ∙ rw (a, b)
 
 -- the forced mask looks at the cardinal neighbours alone, so a diagonal bit does not change it
 module _ (m k : ℕ) (on : Bool) (hm : m < 256) (hk : k < 8) (odd : k % 2 ≡ 1) where

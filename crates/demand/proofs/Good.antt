@@ -1,26 +1,38 @@
 -- What every grid that the calls make has: room, right masks, and a light forest. Assumes nothing.
-use mathlib.Core.Path.{refl}
+use mathlib.Core.Path.{_≡_, refl}
 use mathlib.Core.Bool.{Bool, true, false, not, cond}
 use mathlib.Core.List.{List, [], _∷_}
 use Prim.Native.Nat.{ℕ, _+_, _-_, _*_, _^_, _≤_, _<_}
 use native.Mathlib.Omega.{arith}
 use lib.ListN.{length, getD, length-set}
 use Rattle.components.specs.Components.{Links, Light}
+use Rattle.components.proofs.Weight
 use Rattle.masks.specs.Masks.{forcedOf}
-use Rattle.cells.specs.Cells.{MasksRight, newBlocked, newMasks, maskAt}
+use Rattle.cells.specs.Cells.{MasksRight, fillTo, maskAt, newBlocked, newParent}
 use Rattle.cells.proofs.Cell.{cell-lt}
-use Rattle.cells.proofs.Updates.{length-fillTo}
-use Rattle.cells.proofs.Right.{new-right}
+use Rattle.cells.proofs.Updates.{length-fillTo, get-fillTo}
+use Rattle.cells.proofs.Right.{fill-right}
 use Rattle.tables.specs.Tables.{Tables, Room, linksOf, blocks, around, joinedTo, singles, newOf, editOf, rebuildOf, updateOf}
 use Rattle.tables.proofs.Joins.{Held, held-joined, held-columns, held-singles}
 use Rattle.demand.proofs.Runs.{Call, edit, rebuild, update, afterCalls}
-use Rattle.demand.proofs.Masks.{Follows, forced-kept, right-small, length-masks, length-forced, new-follows, edit-right}
+use Rattle.demand.proofs.Masks.{Follows, forced-kept, right-small, length-masks, length-forced, fill-follows, edit-right}
 
 pub record Good (m w h : ℕ) (t : Tables) : Type 0 where
   pub room : Room w h t
   pub masks : MasksRight w h (t .blocked) (t .masks)
   pub forced : Follows (w * h) (t .masks) (t .forced)
   pub light : Light m (w * h) (t .parent) (t .rank)
+
+-- the tables of some cells: the masks that they give, and each cell its own component
+abbrev pub filled : ℕ → ℕ → Tables → Tables
+filled w h t = record {
+  blocked = t .blocked;
+  masks = fillTo (maskAt w h (t .blocked)) (t .masks) (w * h);
+  forced = fillTo (λ i. forcedOf (getD (fillTo (maskAt w h (t .blocked)) (t .masks) (w * h)) i 0)) (t .forced) (w * h);
+  parent = newParent w h (t .parent);
+  rank = t .rank;
+  dirty = t .dirty;
+}
 
 -- the union-find after an edit
 abbrev pub editLinks : ℕ → ℕ → Bool → Tables → ℕ → ℕ → Bool → Links
@@ -91,22 +103,37 @@ module _ {m : ℕ} (w h : ℕ) (small : m ≤ 254) where
         go true = good-rebuild diagonal t G
         go false = G
 
+    pub good-filled : 0 < w → (t : Tables) → Room w h t → ((i : ℕ) → i < w * h → getD (t .rank) i 0 ≡ 0) → Good m w h (filled w h t)
+    good-filled hw t R flat =
+        let masks = fillTo (maskAt w h (t .blocked)) (t .masks) (w * h) in
+        let own = length-fillTo (λ i. i) (t .parent) (w * h) in
+        record {
+          room = record {
+            blocked = R .blocked;
+            masks = omega (arith, length-fillTo (maskAt w h (t .blocked)) (t .masks) (w * h), R .masks);
+            forced = omega (arith, length-fillTo (λ i. forcedOf (getD masks i 0)) (t .forced) (w * h), R .forced);
+            parent = omega (arith, own, R .parent);
+            rank = R .rank;
+          };
+          masks = fill-right w h (t .blocked) (t .masks) hw (R .masks);
+          forced = fill-follows (w * h) masks (t .forced) (R .forced);
+          light = Weight.singles-light m (w * h) (newParent w h (t .parent)) (t .rank) (omega (arith, own, R .parent)) (R .rank)
+              (λ i hi. get-fillTo (λ i. i) (t .parent) (w * h) i hi (R .parent)) flat fits;
+        }
+
     pub good-new : 0 < w → (t : Tables) → Room w h t → Good m w h (newOf w h t)
     unfolding newOf
     good-new hw t R =
-        let K = held-new (t .parent) (t .rank) (R .parent) (R .rank) in
-        record {
-          room = record {
-            blocked = omega (arith, length-fillTo (λ i. 0) (t .blocked) (w * h), R .blocked);
-            masks = omega (arith, length-fillTo (maskAt w h (newBlocked w h (t .blocked))) (t .masks) (w * h), R .masks);
-            forced = omega (arith, length-fillTo (λ i. forcedOf (getD (newMasks w h (t .blocked) (t .masks)) i 0)) (t .forced) (w * h), R .forced);
-            parent = omega (arith, K .long-p, R .parent);
-            rank = omega (arith, K .long-k, R .rank);
-          };
-          masks = new-right w h (t .blocked) (t .masks) hw (R .masks);
-          forced = new-follows w h (t .blocked) (t .masks) (t .forced) (R .forced);
-          light = K .light;
-        }
+        good-filled hw
+        (record { blocked = newBlocked w h (t .blocked); masks = t .masks; forced = t .forced; parent = t .parent; rank = newBlocked w h (t .rank); dirty = false })
+        (record {
+          blocked = omega (arith, length-fillTo (λ i. 0) (t .blocked) (w * h), R .blocked);
+          masks = R .masks;
+          forced = R .forced;
+          parent = R .parent;
+          rank = omega (arith, length-fillTo (λ i. 0) (t .rank) (w * h), R .rank);
+        })
+        (λ i hi. get-fillTo (λ i. 0) (t .rank) (w * h) i hi (R .rank))
 
     pub good-calls : (t : Tables) (cs : List (Call w h)) → Good m w h t → Good m w h (afterCalls w h t cs)
     good-calls t [] G = G

@@ -1,4 +1,4 @@
--- The demand on grids by value: a grid that the calls made is the grid of tables that the calls on tables made, and no call refuses its state.
+-- The demand on grids by value: a grid that the calls made, from a new one or from one that was read, is the grid of tables that the calls on tables made, and no call refuses its state.
 -- Assumes nothing.
 use mathlib.Core.Path.{_≡_, refl, sym, ap, subst, _∙_}
 use mathlib.Core.Bool.{Bool, true, false, true≢false, not}
@@ -6,30 +6,29 @@ use mathlib.Core.List.{List, [], _∷_}
 use Prim.Native.Nat.{ℕ, suc, _+_, _*_, _≤_, _<_}
 use native.Mathlib.Omega.{arith}
 use native.Mathlib.Decide.{decLe}
-use lib.ListN.{length-replicate}
 use borrow.Author.Tests.{lt-ltb, eq-eqb}
 use Rattle.points.specs.declared.Point.{Point}
 use Rattle.masks.specs.Masks.{forcedOf}
 use Rattle.components.specs.Components.{Same, rootOf}
 use Rattle.components.proofs.State.{and-true}
-use Rattle.cells.specs.Cells.{mostSide, sizedOf, placeOf, cellOf, MasksRight}
-use Rattle.cells.proofs.Cell.{area, cell-lt, of-inside, places}
-use Rattle.tables.specs.Tables.{Tables, Sides, Room, newOf, editOf, rebuildOf, updateOf, mostRank}
-use Rattle.tables.proofs.Joins.{fits, sides-of}
+use Rattle.cells.specs.Cells.{sizedOf, placeOf, cellOf, MasksRight}
+use Rattle.cells.proofs.Cell.{cell-lt, of-inside, places}
+use Rattle.tables.specs.Tables.{Tables, editOf, rebuildOf, updateOf, mostRank}
+use Rattle.tables.proofs.Joins.{fits}
 use Rattle.questions.specs.Questions.{reachableOf, rootedOf}
 use Rattle.grid.specs.declared.Grid.{Grid}
 use Rattle.grid.specs.declared.Outcome.{Outcome}
 use Rattle.grid.specs.declared.Outcome.the-variants.{Done, Refused}
 use Rattle.grid.specs.declared.Change.{Change}
 use Rattle.grid.specs.declared.Verdict.the-variants.{No}
-use Rattle.grid.specs.Grids.{gridOf, legalOf, cellIn, locatedOf, askedOf, changed, editGrid, setOutcome, rebuildGrid, updateGrid, rebuildOutcome, updateOutcome, newGrid, empty}
+use Rattle.grid.specs.Grids.{gridOf, legalOf, cellIn, locatedOf, askedOf, changed, editGrid, setOutcome, rebuildGrid, updateGrid, rebuildOutcome, updateOutcome}
 use Rattle.grid.specs.Questions.{verdictAfter, reachableFrom}
 use Rattle.grid.proofs.Tests.{legal-of, located-in, stated-yes, done-located}
 use Rattle.grid.proofs.Calls.{set-done, rebuild-done, update-done}
-use Rattle.demand.specs.Walks.{Free, Walk}
-use Rattle.demand.specs.Demand3.{Call, set, rebuild, update, called, after, Edit, afterEdits, noneBlocks, componentIn, Share, ForcedRight, Clauses, edited, Demand3, point, NoIsTrue, Made, NeverRefused}
+use Rattle.demand.specs.Demand3.{Begin, begun, Call, set, rebuild, update, called, after, Edit, afterEdits, noneBlocks, componentIn, Share, ForcedRight, Clauses, edited, Demand3, point, NoWalk, NoIsTrue, Made, NeverRefused}
 use Rattle.demand.proofs.Runs as Runs
-use Rattle.demand.proofs.Good.{Good, good-edit, good-rebuild, good-update, good-new}
+use Rattle.demand.proofs.Good.{Good, good-edit, good-rebuild, good-update}
+use Rattle.demand.proofs.Starts.{sides, start}
 use Rattle.demand.proofs.Masks.{Follows}
 use Rattle.demand.proofs.Theorem
 
@@ -53,9 +52,6 @@ unfolding reachableOf rootedOf
 says-yes n p a c ha hc e = rw (lt-ltb a n ha, lt-ltb c n hc, eq-eqb (rootOf p a) (rootOf p c) e)
 
 module _ (w h : ℕ) (ok : sizedOf w h ≡ true) where
-  pub sides : Sides w h
-  sides = sides-of ok
-
   legal-is : (t : Tables) → Good mostRank w h t → legalOf (gridOf w h t) ≡ true
   legal-is t G = legal-of (gridOf w h t) (omega arith) ok (G .light .forest)
 
@@ -91,25 +87,14 @@ module _ (w h : ℕ) (ok : sizedOf w h ≡ true) where
 
   rep-call : (c : Call) (t : Tables) → Good mostRank w h t → Rep (called (gridOf w h t) c)
   rep-call (set d p b) t G = rep-set d p b t G (decLe (suc (cellOf w h p)) (w * h))
-  rep-call (rebuild d) t G = record { tables = rebuildOf w h d t; good = good-rebuild w h (omega arith) (fits sides) d t G; is = rebuilt-is d t G }
-  rep-call (update d) t G = record { tables = updateOf w h d t; good = good-update w h (omega arith) (fits sides) d t G; is = updated-is d t G }
+  rep-call (rebuild d) t G = record { tables = rebuildOf w h d t; good = good-rebuild w h (omega arith) (fits (sides w h ok)) d t G; is = rebuilt-is d t G }
+  rep-call (update d) t G = record { tables = updateOf w h d t; good = good-update w h (omega arith) (fits (sides w h ok)) d t G; is = updated-is d t G }
 
   rep-calls : (cs : List Call) (t : Tables) → Good mostRank w h t → Rep (after (gridOf w h t) cs)
   rep-calls [] t G = record { tables = t; good = G; is = refl }
   rep-calls (c ∷ cs) t G =
       let r = rep-call c t G in
       subst (λ (g : Grid). Rep (after g cs)) (sym (r .is)) (rep-calls cs (r .tables) (r .good))
-
-  pub room : Room w h empty
-  room =
-      let s = sides in
-      let a = area w h (s .wide) (s .high) in
-      let l = length-replicate {A = ℕ} (mostSide * mostSide) 0 in
-      record { blocked = omega (arith, l); masks = omega (arith, l); forced = omega (arith, l); parent = omega (arith, l); rank = omega (arith, l) }
-
-  rep-new : (cs : List Call) → Rep (after (newGrid w h) cs)
-  unfolding newGrid
-  rep-new cs = rep-calls cs (newOf w h empty) (good-new w h (omega arith) (fits sides) (sides .some) empty room)
 
   -- the edits that are accepted
   taken : (e : Edit) → Dec (cellOf w h (e .at) < w * h) → List (Runs.Edit w h) → List (Runs.Edit w h)
@@ -167,26 +152,24 @@ module _ (w h : ℕ) (ok : sizedOf w h ≡ true) where
     is : g ≡ gridOf w h tables
     clauses : Clauses componentIn w h d es (gridOf w h tables)
 
-  told : (cs : List Call) (d : Bool) (es : List Edit) → Told d es (edited w h cs d es)
-  told cs d es =
-      let r = rep-new cs in
+  told : (g : Grid) → Rep g → (d : Bool) (es : List Edit) → Told d es (afterEdits d (rebuildOutcome g d .grid) es)
+  told g r d es =
       let t = r .tables in
-      let G = good-rebuild w h (omega arith) (fits sides) d t (r .good) in
+      let G = good-rebuild w h (omega arith) (fits (sides w h ok)) d t (r .good) in
       let s = rebuildOf w h d t in
       record {
         tables = Runs.afterEdits w h d s (accepted es);
         is = ap (λ (g : Grid). afterEdits d (rebuildOutcome g d .grid) es) (r .is) ∙ ap (λ (g : Grid). afterEdits d g es) (rebuilt-is d t (r .good)) ∙ edits-are d es s G;
         clauses =
             clauses-are d es (Runs.afterEdits w h d s (accepted es)) (good-edits d (accepted es) s G)
-            (Theorem.clauses {m = mostRank} w h (omega arith) d (fits sides) t (r .good) (accepted es));
+            (Theorem.clauses {m = mostRank} w h (omega arith) d (fits (sides w h ok)) t (r .good) (accepted es));
       }
 
   -- a cell that is a point
   pub at-point : (x y : ℕ) → x < w → y < h → cellOf w h (point x y) ≡ y * w + x
   at-point x y hx hy = sym (of-inside w h (point x y) x y (rw (lt-ltb x w hx)) (rw (lt-ltb y h hy)) hx hy)
 
-  no-walk : (d : Bool) (es : List Edit) (t : Tables) → Clauses componentIn w h d es (gridOf w h t) → (x y i j : ℕ) → Free w h (t .blocked) x y → Free w h (t .blocked) i j
-      → reachableFrom (gridOf w h t) (point x y) (point i j) ≡ No → Walk w h (t .blocked) d (y * w + x) (j * w + i) → ⊥
+  no-walk : (d : Bool) (es : List Edit) (t : Tables) → Clauses componentIn w h d es (gridOf w h t) → (x y i j : ℕ) → NoWalk w h d x y i j (gridOf w h t)
   unfolding reachableFrom
   no-walk d es t C x y i j f k e p =
       let a = cell-lt w h x y (f .left) (f .down) in
@@ -195,26 +178,39 @@ module _ (w h : ℕ) (ok : sizedOf w h ≡ true) where
       let m = rw (at-point x y (f .left) (f .down), at-point i j (k .left) (k .down)) at n in
       true≢false (sym (says-yes (w * h) (t .parent) (y * w + x) (j * w + i) a c (C .joined _ _ p)) ∙ m)
 
+-- a grid that the calls made
+rep : (s : Begin) (cs : List Call) → Rep (begun s .width) (begun s .height) (start s .ok) (after (begun s) cs)
+rep s cs =
+    let b = start s in
+    let w = begun s .width in
+    let h = begun s .height in
+    subst (λ (g : Grid). Rep w h (b .ok) (after g cs)) (sym (b .is)) (rep-calls w h (b .ok) cs (b .tables) (b .good))
+
+made : (s : Begin) (cs : List Call) (d : Bool) (es : List Edit) → Told (begun s .width) (begun s .height) (start s .ok) d es (edited s cs d es)
+made s cs d es = told (begun s .width) (begun s .height) (start s .ok) (after (begun s) cs) (rep s cs) d es
+
 pub demand3 : Demand3
-demand3 w h ok cs d es = let r = told w h ok cs d es in subst (Clauses componentIn w h d es) (sym (r .is)) (r .clauses)
+demand3 s cs d es = let r = made s cs d es in subst (Clauses componentIn (begun s .width) (begun s .height) d es) (sym (r .is)) (r .clauses)
 
 pub no-is-true : NoIsTrue
-no-is-true w h ok cs d es x y i j =
-    let r = told w h ok cs d es in
-    subst
-    (λ (g : Grid). Free w h (g .blocked) x y → Free w h (g .blocked) i j → reachableFrom g (point x y) (point i j) ≡ No → Walk w h (g .blocked) d (y * w + x) (j * w + i) → ⊥)
-    (sym (r .is)) (no-walk w h ok d es (r .tables) (r .clauses) x y i j)
+no-is-true s cs d es x y i j =
+    let w = begun s .width in
+    let h = begun s .height in
+    let r = made s cs d es in
+    subst (NoWalk w h d x y i j) (sym (r .is)) (no-walk w h (start s .ok) d es (r .tables) (r .clauses) x y i j)
 
 pub never-refused : NeverRefused
 unfolding ForcedRight MasksRight Follows
-never-refused w h ok cs =
-    let r = rep-new w h ok cs in
+never-refused s cs =
+    let w = begun s .width in
+    let h = begun s .height in
+    let r = rep s cs in
     let G = r .good in
     subst (Made w h) (sym (r .is))
     (record {
       wide = refl;
       high = refl;
-      legal = legal-is w h ok (r .tables) G;
+      legal = legal-is w h (start s .ok) (r .tables) G;
       masks = G .masks;
       forced = λ x y hx hy. G .forced (y * w + x) (cell-lt w h x y hx hy) ∙ ap forcedOf (G .masks x y hx hy);
       low = λ i hi. G .light .forest .low i hi;

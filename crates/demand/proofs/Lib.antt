@@ -4,6 +4,7 @@ pub mod Sharing
 pub mod Masks
 pub mod Runs
 pub mod Good
+pub mod Starts
 pub mod Theorem
 pub mod Grids
 pub mod Examples

@@ -12,7 +12,7 @@ use lib.Dec.{ltb}
 use native.Mathlib.Nat.{div-add-mod', mod-lt}
 use borrow.Author.Tests.{lt-ltb, eqb-false}
 use Rattle.masks.specs.Masks.{forcedOf}
-use Rattle.cells.specs.Cells.{cellTo, touched, touchedTo, masksAfter, allowedOf, freeBit, fixed, fixedTo, fixedAll, forcedAfter, MasksRight, maskOf, newMasks, newForced}
+use Rattle.cells.specs.Cells.{cellTo, touched, touchedTo, masksAfter, allowedOf, freeBit, fixed, fixedTo, fixedAll, forcedAfter, MasksRight, maskOf, fillTo}
 use Rattle.cells.proofs.Cell.{cell-lt, row-lt}
 use Rattle.cells.proofs.Updates.{length-touchedTo, length-fixedTo, fixed-skip, get-fillTo}
 use Rattle.cells.proofs.Right.{masks-kept, get-pick, touched-hit, touched-miss, small-to, forced-odd, free-small, mask-small}
@@ -133,9 +133,10 @@ pub length-forced : (w h : ℕ) (diagonal : Bool) (neighbours forced : List ℕ)
 unfolding fixedAll
 length-forced w h diagonal neighbours forced x y on = length-fixedTo w h x y diagonal (masksAfter w h neighbours x y on) _ 8 ∙ length-set forced _ _
 
-pub new-follows : (w h : ℕ) (blocked neighbours forced : List ℕ) → w * h ≤ length forced → Follows (w * h) (newMasks w h blocked neighbours) (newForced w h blocked neighbours forced)
+-- forced masks that were worked out from the neighbour masks
+pub fill-follows : (n : ℕ) (neighbours forced : List ℕ) → n ≤ length forced → Follows n neighbours (fillTo (λ i. forcedOf (getD neighbours i 0)) forced n)
 unfolding Follows
-new-follows w h blocked neighbours forced room c hc = get-fillTo (λ i. forcedOf (getD (newMasks w h blocked neighbours) i 0)) forced (w * h) c hc room
+fill-follows n neighbours forced room c hc = get-fillTo (λ i. forcedOf (getD neighbours i 0)) forced n c hc room
 
 -- what an edit's byte says of the masks
 pub edit-right : (w h : ℕ) (blocked neighbours : List ℕ) (x y : ℕ) (b : Bool) → x < w → y < h → w * h ≤ length blocked → w * h ≤ length neighbours

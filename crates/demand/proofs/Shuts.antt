@@ -2,7 +2,7 @@
 -- Assumes nothing.
 use mathlib.Core.Path.{_≡_, refl, sym, ap, subst, _∙_}
 use mathlib.Core.Logic.{inl}
-use mathlib.Core.Bool.{true}
+use mathlib.Core.Bool.{Bool, true, cond}
 use mathlib.Core.List.{List, [], _∷_}
 use Prim.Native.Nat.{ℕ, _+_, _*_, _<_}
 use native.Mathlib.Omega.{arith}
@@ -11,18 +11,30 @@ use lib.ListN.{length, getD, length-replicate, set}
 use lib.Seq.{getD-set-same}
 use Rattle.cells.specs.Cells.{mostSide, sizedOf, cellOf, newBlocked}
 use Rattle.cells.proofs.Updates.{length-fillTo, get-fillTo}
-use Rattle.tables.specs.Tables.{newOf, editOf, rebuildOf, mostRank}
-use Rattle.tables.proofs.Joins.{fits}
+use Rattle.tables.specs.Tables.{newOf, editOf, rebuildOf}
+use Rattle.points.specs.declared.Refusal.the-variants.{Size}
 use Rattle.grid.specs.declared.Grid.{Grid}
-use Rattle.grid.specs.Grids.{newGrid, rebuildOutcome, zeros, empty}
+use Rattle.grid.specs.declared.Change.{Change}
+use Rattle.grid.specs.declared.Outcome.the-variants.{Done, Refused}
+use Rattle.grid.specs.Grids.{newGrid, newOutcome, rebuildOutcome, zeros, empty}
 use Rattle.demand.specs.Walks.{Free, Walk, stay, move}
-use Rattle.demand.specs.Demand3.{Call, edited, point, OneForAll, Singletons}
+use Rattle.demand.specs.Demand3.{new, begun, Call, after, Edit, afterEdits, Clauses, DemandOf, point, OneForAll, Singletons}
 use Rattle.demand.specs.Demand3 as Spec
-use Rattle.demand.proofs.Good.{Good, good-new}
-use Rattle.demand.proofs.Grids.{sides, edit-is, edit-good, rebuilt-is, room, at-point}
+use Rattle.demand.proofs.Starts.{good-empty}
+use Rattle.demand.proofs.Grids.{edit-is, edit-good, rebuilt-is, at-point}
 
-good : (w h : ℕ) → sizedOf w h ≡ true → Good mostRank w h (newOf w h empty)
-good w h ok = good-new w h (omega arith) (fits (sides w h ok)) (sides w h ok .some) empty (room w h ok)
+-- the demand on a new grid whose sides are in range
+new-is : (w h : ℕ) → sizedOf w h ≡ true → begun (new w h) ≡ newGrid w h
+unfolding newOutcome
+new-is w h ok = ap (λ (b : Bool). cond {A = Change} b (record { outcome = Done; grid = newGrid w h }) (record { outcome = Refused Size; grid = newGrid 1 1 }) .grid) ok
+
+abbrev rebuilt : Bool → List Call → Grid → Grid
+rebuilt d cs g = rebuildOutcome (after g cs) d .grid
+
+of-new : (component : Grid → ℕ → ℕ) → DemandOf component → (w h : ℕ) → sizedOf w h ≡ true → (cs : List Call) (d : Bool) (es : List Edit)
+    → Clauses component w h d es (afterEdits d (rebuilt d cs (newGrid w h)) es)
+unfolding newGrid
+of-new component D w h ok cs d es = subst (λ (g : Grid). Clauses component (g .width) (g .height) d es (afterEdits d (rebuilt d cs g) es)) (new-is w h ok) (D (new w h) cs d es)
 
 two : sizedOf 2 1 ≡ true
 unfolding sizedOf
@@ -33,9 +45,9 @@ unfolding sizedOf
 three = refl
 
 -- a rebuilt new grid is free
-fresh : edited 2 1 [] true [] .blocked ≡ newBlocked 2 1 zeros
+fresh : rebuilt true [] (newGrid 2 1) .blocked ≡ newBlocked 2 1 zeros
 unfolding newGrid rebuildOf newOf
-fresh = ap (λ (g : Grid). g .blocked) (rebuilt-is 2 1 two true (newOf 2 1 empty) (good 2 1 two))
+fresh = ap (λ (g : Grid). g .blocked) (rebuilt-is 2 1 two true (newOf 2 1 empty) (good-empty 2 1 two))
 
 long : (w h : ℕ) → length (newBlocked w h zeros) ≡ mostSide * mostSide
 long w h = length-fillTo (λ i. 0) zeros (w * h) ∙ length-replicate {A = ℕ} (mostSide * mostSide) 0
@@ -65,17 +77,17 @@ step = move stay
 
 pub singletons : Singletons
 singletons D =
-    let z : _≡_ {A = ℕ} 0 1 = D 2 1 two [] true [] .joined 0 1 (subst (λ (l : List ℕ). Walk 2 1 l true 0 1) (sym fresh) step) in
+    let z : _≡_ {A = ℕ} 0 1 = of-new (λ g a. a) D 2 1 two [] true [] .joined 0 1 (subst (λ (l : List ℕ). Walk 2 1 l true 0 1) (sym fresh) step) in
     omega arith
 
 -- 3x1 `.#.`, rebuilt
 cut : List Call
 cut = Spec.set true (point 1 0) true ∷ []
 
-walled : edited 3 1 cut true [] .blocked ≡ set (newBlocked 3 1 zeros) 1 1
+walled : rebuilt true cut (newGrid 3 1) .blocked ≡ set (newBlocked 3 1 zeros) 1 1
 unfolding cut newGrid rebuildOf newOf editOf
 walled =
-    let G = good 3 1 three in
+    let G = good-empty 3 1 three in
     let l : cellOf 3 1 (point 1 0) < 3 * 1 = omega (arith, at-point 3 1 three 1 0 (omega arith) (omega arith)) in
     ap (λ (g : Grid). rebuildOutcome g true .grid .blocked) (edit-is 3 1 three true (point 1 0) true (newOf 3 1 empty) G l)
     ∙ ap (λ (g : Grid). g .blocked) (rebuilt-is 3 1 three true (editOf 3 1 true (newOf 3 1 empty) 1 0 true) (edit-good 3 1 three true (point 1 0) true (newOf 3 1 empty) G l))
@@ -94,7 +106,7 @@ stuck l e (move {b = a} {c = c} p m) = go (stuck l e p) (ℕ-discrete (m .i) 1)
 pub one-for-all : OneForAll
 unfolding cut
 one-for-all D =
-    let p = D 3 1 three cut true [] .parted refl 0 2 (omega arith) (omega arith) refl in
+    let p = of-new (λ g a. 0) D 3 1 three cut true [] .parted refl 0 2 (omega arith) (omega arith) refl in
     let q = subst (λ (l : List ℕ). Walk 3 1 l true 0 2) walled p in
     let z : _≡_ {A = ℕ} 2 0 = stuck (set (newBlocked 3 1 zeros) 1 1) (getD-set-same (newBlocked 3 1 zeros) 1 1 0 (omega (arith, long 3 1))) q in
     omega arith

@@ -1,6 +1,7 @@
 -- Demand 3: what the masks and the components of a grid are worth.
--- A grid is made by `new` and any run of the calls that change a grid. Then its components are generated, under one diagonal setting, and any
--- edits follow under the same setting. A call that is refused hands the same grid back. After the rebuild and after each edit:
+-- A grid is made by `new`, with any sides, or read from any map text by `read_map`; any run of the calls that change a grid follows. Then its
+-- components are generated, under one diagonal setting, and any edits follow under the same setting. A call that is refused hands the same grid
+-- back; refused sides and refused texts come with a new grid of 1 by 1. After the rebuild and after each edit:
 --   (a) every neighbour mask and every forced mask is what the blocked cells alone give;
 --   (b) cells that a walk over free cells joins share a component;
 --   (c) cells that share a component go on sharing it, whatever is edited, until the next rebuild;
@@ -15,13 +16,24 @@ use lib.ListN.{length, getD}
 use Rattle.points.specs.declared.Point.{Point}
 use Rattle.masks.specs.Masks.{forcedOf}
 use Rattle.components.specs.Components.{rootOf}
-use Rattle.cells.specs.Cells.{mostSide, sizedOf, MasksRight, maskOf}
+use Rattle.cells.specs.Cells.{mostSide, MasksRight, maskOf}
 use Rattle.tables.specs.Tables.{mostRank}
 use Rattle.grid.specs.declared.Grid.{Grid}
 use Rattle.grid.specs.declared.Verdict.the-variants.{No}
-use Rattle.grid.specs.Grids.{legalOf, newGrid, setOutcome, rebuildOutcome, updateOutcome}
+use Rattle.grid.specs.Grids.{legalOf, newOutcome, setOutcome, rebuildOutcome, updateOutcome}
 use Rattle.grid.specs.Questions.{reachableFrom}
+use Rattle.floors.specs.Floors.{readOf}
 use Rattle.demand.specs.Walks.{Free, Walk}
+
+-- the call that a grid begins with, with any arguments: `new` with the sides, or `read_map` with the bytes of a text
+pub data Begin : Type 0 where
+  new : ℕ → ℕ → Begin
+  read : List ℕ → Begin
+
+-- the grid that it hands back
+abbrev pub begun : Begin → Grid
+begun (new w h) = newOutcome w h .grid
+begun (read text) = readOf text .grid
 
 -- a call that changes a grid, with any arguments: the diagonal setting, and for `set` the point and whether it is to be blocked
 pub data Call : Type 0 where
@@ -74,13 +86,13 @@ pub record Clauses (component : Grid → ℕ → ℕ) (w h : ℕ) (diagonal : Bo
   pub parted : noneBlocks es ≡ true → (a c : ℕ) → a < w * h → c < w * h → Share component g a c → Walk w h (g .blocked) diagonal a c
 
 -- a grid that was made by any calls, then rebuilt, then edited
-abbrev pub edited : ℕ → ℕ → List Call → Bool → List Edit → Grid
-edited w h calls diagonal es = afterEdits diagonal (rebuildOutcome (after (newGrid w h) calls) diagonal .grid) es
+abbrev pub edited : Begin → List Call → Bool → List Edit → Grid
+edited s calls diagonal es = afterEdits diagonal (rebuildOutcome (after (begun s) calls) diagonal .grid) es
 
--- THE DEMAND, for every size, every run of calls, both settings, and every run of edits after the rebuild
+-- THE DEMAND, for every size and every map text, every run of calls, both settings, and every run of edits after the rebuild
 abbrev pub DemandOf : (Grid → ℕ → ℕ) → Type 0
-DemandOf component = (w h : ℕ) → sizedOf w h ≡ true → (calls : List Call) (diagonal : Bool) (es : List Edit)
-    → Clauses component w h diagonal es (edited w h calls diagonal es)
+DemandOf component = (s : Begin) (calls : List Call) (diagonal : Bool) (es : List Edit)
+    → Clauses component (begun s .width) (begun s .height) diagonal es (edited s calls diagonal es)
 
 abbrev pub Demand3 : Type 0
 Demand3 = DemandOf componentIn
@@ -96,12 +108,16 @@ Singletons = DemandOf (λ g a. a) → ⊥
 abbrev pub point : ℕ → ℕ → Point
 point x y = record { x = pos x; y = pos y }
 
+-- `reachable` says no of two free cells only if no walk joins them
+abbrev pub NoWalk : ℕ → ℕ → Bool → (x y i j : ℕ) → Grid → Type 0
+NoWalk w h diagonal x y i j g = Free w h (g .blocked) x y → Free w h (g .blocked) i j
+    → reachableFrom g (point x y) (point i j) ≡ No
+    → Walk w h (g .blocked) diagonal (y * w + x) (j * w + i) → ⊥
+
 -- THE DISPATCHER'S RULE: after a rebuild and any edits, `reachable` says no of two free cells only if no walk joins them
 abbrev pub NoIsTrue : Type 0
-NoIsTrue = (w h : ℕ) → sizedOf w h ≡ true → (calls : List Call) (diagonal : Bool) (es : List Edit) (x y i j : ℕ)
-    → Free w h (edited w h calls diagonal es .blocked) x y → Free w h (edited w h calls diagonal es .blocked) i j
-    → reachableFrom (edited w h calls diagonal es) (point x y) (point i j) ≡ No
-    → Walk w h (edited w h calls diagonal es .blocked) diagonal (y * w + x) (j * w + i) → ⊥
+NoIsTrue = (s : Begin) (calls : List Call) (diagonal : Bool) (es : List Edit) (x y i j : ℕ)
+    → NoWalk (begun s .width) (begun s .height) diagonal x y i j (edited s calls diagonal es)
 
 -- and of every grid that the calls make, rebuilt or not: STATE is never refused, the masks are right, and no rank is above log2 of the most cells
 pub record Made (w h : ℕ) (g : Grid) : Type 0 where
@@ -113,7 +129,7 @@ pub record Made (w h : ℕ) (g : Grid) : Type 0 where
   pub low : (i : ℕ) → i < w * h → getD (g .rank) i 0 ≤ mostRank
 
 abbrev pub NeverRefused : Type 0
-NeverRefused = (w h : ℕ) → sizedOf w h ≡ true → (calls : List Call) → Made w h (after (newGrid w h) calls)
+NeverRefused = (s : Begin) (calls : List Call) → Made (begun s .width) (begun s .height) (after (begun s) calls)
 
 -- the arrays of a grid value are as long as they are declared
 pub record Long (g : Grid) : Type 0 where
