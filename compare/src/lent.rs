@@ -152,6 +152,7 @@ impl Lent {
     pub fn component(&self, p: Point) -> u64 {
         lent::component(self.links(), at(p))
     }
+    #[cfg(feature = "bench")]
     pub fn reachable(&self, s: Point, g: Point) -> u64 {
         lent::reachable(self.links(), at(s), at(g))
     }
