@@ -9,7 +9,8 @@ use native.Mathlib.Nat.{eq-or-lt-of-le, le-of-suc-le-suc}
 use lib.ListN.{getD}
 use lib.Dec.{eqb, ltb, leb}
 use borrow.Author.Tests.{ltb-true, leb-true, leb-false, eqb-true}
-use Rattle.components.specs.Components.{allTo, cellOk, Each, Near, NextRoot}
+use Rattle.components.specs.Components.{allTo, cellOk}
+use Rattle.components.specs.Blocks.{Each, Near, NextRoot}
 use Rattle.components.proofs.State.{and-true, or-true, all-at, all-of, cell-of, of-cell}
 
 each-turn : (P : ℕ → Type 0) (a j : ℕ) → Each a j P → P (a + j) → Each a (j + 1) P

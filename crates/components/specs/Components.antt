@@ -2,7 +2,7 @@
 -- Assumes nothing.
 use mathlib.Core.Path.{_≡_}
 use mathlib.Core.Logic.{_⊎_}
-use mathlib.Core.Bool.{Bool, true, false, cond, _&&_, _||_}
+use mathlib.Core.Bool.{Bool, true, cond, _&&_, _||_}
 use mathlib.Core.List.{List}
 use Prim.Native.Nat.{ℕ, zero, suc, _+_, _^_, _≤_, _<_}
 use lib.ListN.{length, getD, set}
@@ -32,20 +32,6 @@ cellOk n p k i =
 -- of the first n cells: true exactly of a legal state (state-of and of-state of proofs/State)
 abbrev pub stateOk : ℕ → List ℕ → List ℕ → Bool
 stateOk n p k = allTo (cellOk n p k) n
-
--- P holds of each of the d numbers from a on
-abbrev pub Each : ℕ → ℕ → (ℕ → Type 0) → Type 0
-Each a d P = (j : ℕ) → j < d → P (a + j)
-
--- cell i is its own parent or, where t, has the parent r
-abbrev pub Near : List ℕ → ℕ → Bool → ℕ → Type 0
-Near p r t i = (getD p i 0 ≡ i) ⊎ ((getD p i 0 ≡ r) × (t ≡ true))
-
--- what next_root's answer says: a cell r, that the cells below b are legal; any other r, that the state is not
-pub record NextRoot (n : ℕ) (p k : List ℕ) (b r : ℕ) : Type 0 where
-  pub small : r < n → r < 2 ^ 16
-  pub legal : r < n → allTo (cellOk n p k) b ≡ true
-  pub illegal : n ≤ r → stateOk n p k ≡ false
 
 -- f steps from x to the parent. A root is its own parent, so further steps stay there
 unfoldable pub climb : ℕ → List ℕ → ℕ → ℕ

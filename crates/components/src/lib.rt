@@ -4,7 +4,8 @@ ghost use mathlib.Core.Bool.{true, not};
 ghost use Prim.Native.Nat.{_+_, _≤_, _<_, _^_};
 ghost use lib.ListN.{length, getD};
 ghost use lib.Dec.{eqb};
-ghost use Rattle.components.specs.Components.{Forest, allTo, cellOk, stateOk, Each, Near, NextRoot, rootOf, halve, linked, united};
+ghost use Rattle.components.specs.Components.{Forest, allTo, cellOk, stateOk, rootOf, halve, linked, united};
+ghost use Rattle.components.specs.Blocks.{Each, Near, NextRoot};
 
 // Whether cell i has a rank of at most 200, and is its own parent or has one of higher rank.
 fn cell_ok(parent: &[u16], rank: &[u8], n: usize, i: usize) -> bool

@@ -20,7 +20,7 @@ use points::Refusal;
 pub const PRINT: usize = 82100;
 
 // The exact search with a new grid's other settings; the waypoints stand in the list.
-fn searched(list: &mut [i32], g: Grid, diagonal: bool, start: Point, goal: Point) -> Answer
+pub fn searched(list: &mut [i32], g: Grid, diagonal: bool, start: Point, goal: Point) -> Answer
     ensures { λ r. ⌜ (r ≡ answerOf (length (now (list .entry))) (exactOf g diagonal start goal)) × (now (list .exit) ≡ outAfter (now (list .entry)) (singlePlan g (settingsFor diagonal) false start goal) (exactOf g diagonal start goal)) ⌝ }
 {
     let mut number = [0u32; 4097];

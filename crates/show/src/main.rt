@@ -1,7 +1,5 @@
 // Reads a map on standard input, or those in the files that are named, and draws each floor with its route:
 // S start, G goal, o waypoint, * walked, # blocked, . free. What came of the search stands under it, in words.
-use costs::Settings;
-use finder::Answer;
 use finder::Outcome;
 use grid::Grid;
 use libc::STDIN_FILENO;
@@ -102,7 +100,7 @@ fn say_rows(canvas: &[u8], w: usize, h: usize) {
 fn say_refusal(r: Refusal) {
     match r {
         Refusal::NoRoute => say(b"no route: the start and the goal are not joined"),
-        Refusal::Exhausted => say(b"no route: every way from the start was tried"),
+        Refusal::Exhausted => say(b"no route found: all that the search reaches was searched"),
         Refusal::Depth => say(b"refused: jumps nest deeper than the limit"),
         Refusal::Fringe => say(b"refused: more open cells than the limit"),
         Refusal::Pops => say(b"refused: more cells to look at than the limit"),
@@ -127,32 +125,6 @@ fn say_bad(line: usize) {
             b": expected row= and a . or # for each column, as many rows as the height, and nothing after them\n",
         ),
     }
-}
-
-// The exact search with a new grid's other settings; the waypoints stand in the list.
-fn searched(list: &mut [i32], g: Grid, diagonal: bool, start: Point, goal: Point) -> Answer {
-    let mut number = [0u32; 4097];
-    let mut place = [0u32; 4097];
-    let mut parent = [0u32; 4097];
-    let mut cost = [0u64; 4097];
-    let mut keys = [0u64; 8192];
-    let mut idx = [0u32; 8192];
-    let mut s = Settings::new();
-    s.diagonal = diagonal;
-    waypoints::get_waypoints_single_goal(
-        &mut number,
-        &mut place,
-        &mut parent,
-        &mut cost,
-        &mut keys,
-        &mut idx,
-        list,
-        g,
-        s,
-        start,
-        goal,
-        false,
-    )
 }
 
 // The walk along the first waypoints of a list; how many points it has, 0 where it is longer than the room.
@@ -187,7 +159,7 @@ fn draw(g: Grid, diagonal: bool, start: Point, goal: Point) {
     let mut canvas = [b'.'; 4096];
     put_cells(&mut canvas, &blocked);
     let mut list = [0i32; 8194];
-    let answer = searched(&mut list, g, diagonal, start, goal);
+    let answer = router::searched(&mut list, g, diagonal, start, goal);
     let outcome = answer.outcome;
     put_route(&mut canvas, w, h, &list, outcome);
     put(&mut canvas, w, h, start, b'S');

@@ -4,7 +4,7 @@ use mathlib.Core.Logic.{⊎-elim, inl, inr}
 use borrow.Author.Needs.{needs}
 use native.Mathlib.Omega.{arith}
 use lib.ListN.{getD}
-use Rattle.components.specs.Components.{Each}
+use Rattle.components.specs.Blocks.{Each}
 use Rattle.components.proofs.Blocks.{higher, top-turn}
 use Rattle.components.proofs.highest.Statement.{statement}
 use Rattle.components.proofs.highest.Tie as tie

@@ -4,7 +4,7 @@ use mathlib.Core.Path.{_≡_}
 use mathlib.Core.Bool.{true}
 use borrow.Author.Needs.{needs}
 use native.Mathlib.Omega.{arith}
-use Rattle.components.specs.Components.{Each, Near}
+use Rattle.components.specs.Blocks.{Each, Near}
 use Rattle.components.proofs.Blocks.{near-turn}
 use Rattle.components.proofs.near.Statement.{statement}
 use Rattle.components.proofs.near.Tie as tie
