@@ -1,4 +1,4 @@
-//! Links, for the times, the archive that `rt staticlib bench` writes. The crate `rust/` links the other one.
+//! Links, for the times, the archive that `compare/run` makes of `bench/`. The crate `rust/` links the other one.
 fn main() {
     let archive = concat!(env!("CARGO_MANIFEST_DIR"), "/../target/staticlib");
     if std::env::var_os("CARGO_FEATURE_BENCH").is_some() {

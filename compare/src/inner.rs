@@ -1,4 +1,4 @@
-//! The inner calls, which require a legal state and do not test it: the archive of the crate `bench` repeats them after one test.
+//! The inner calls, which require a legal state and do not test it: the archive of `compare/bench` repeats them after one test.
 use crate::lent::{Lent, Rooms};
 
 mod raw {

@@ -1,22 +1,17 @@
 -- The lines of the waypoints, one at a time. Assumes nothing.
-use mathlib.Core.Path.{_≡_, refl, sym, ap, _∙_}
-use mathlib.Core.Bool.{Bool, true, false, cond}
-use mathlib.Core.List.{List, [], _∷_, _++_}
+use mathlib.Core.Path.{_≡_, sym, ap, _∙_}
+use mathlib.Core.List.{List, [], _++_}
 use Prim.Native.Nat.{ℕ, _+_, _≤_, _<_}
 use native.Mathlib.Omega.{arith}
 use lib.IntN.{ℤ}
 use lib.ListN.{length, drop, drop-of-length-le, length-append}
 use lib.Seq.{sets}
 use Rattle.points.specs.declared.Point.{Point}
-use Rattle.text.specs.Render.{pointText}
-use Rattle.text.proofs.Written.{sets-append}
-use Rattle.paths.specs.Walks.{pointAt}
-use Rattle.paths.proofs.Laws.{two-more}
+use Rattle.printing.specs.Render.{pointText}
+use Rattle.printing.proofs.Written.{sets-append}
+use Rattle.pairs.specs.Pairs.{pointAt}
+use Rattle.pairs.proofs.Laws.{two-more}
 use Rattle.answers.specs.Answers.{pointWord, pointsText}
-
-pub flag-most : (d : Bool) → cond {A = ℕ} d 1 0 ≤ 1
-flag-most true = omega arith
-flag-most false = omega arith
 
 pub points-end : (l : List ℤ) (i : ℕ) → length l ≤ i → pointsText (drop i l) ≡ []
 unfolding pointsText

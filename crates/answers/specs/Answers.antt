@@ -5,8 +5,8 @@ use mathlib.Core.List.{List, [], _∷_, _++_}
 use Prim.Native.Nat.{ℕ, _/_}
 use lib.IntN.{ℤ}
 use lib.ListN.{length}
-use Rattle.text.specs.Render.{numberText, pointText}
-use Rattle.paths.specs.Walks.{point}
+use Rattle.printing.specs.Render.{numberText, pointText}
+use Rattle.pairs.specs.Pairs.{point}
 
 -- "result=", "pops=", "waypoints=", "clear=", "point=", "line="
 abbrev pub resultWord : List ℕ

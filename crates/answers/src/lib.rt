@@ -1,14 +1,14 @@
 // The answer's text: what `route` prints.
 ghost use mathlib.Core.Path.{_≡_};
-ghost use mathlib.Core.Bool.{cond};
 ghost use Prim.Native.Nat.{_+_, _*_, _≤_, _<_};
 ghost use lib.ListN.{length};
 ghost use lib.Seq.{sets};
-ghost use Rattle.paths.specs.Walks.{Even, firstBad};
-ghost use Rattle.paths.specs.declared.Bad.the-variants.{Nowhere};
+ghost use Rattle.pairs.specs.Pairs.{Even, firstBad};
+ghost use Rattle.pairs.specs.declared.Bad.the-variants.{Nowhere};
 ghost use Rattle.answers.specs.Answers.{pointsText, answerText, badText};
-use text::write::put_number_line;
-use text::write::put_point_line;
+use printing::flag;
+use printing::put_number_line;
+use printing::put_point_line;
 
 // A line for each point of a list of points in range.
 fn put_points(buf: &mut [u8], at: usize, list: &[i32]) -> usize
@@ -18,21 +18,11 @@ fn put_points(buf: &mut [u8], at: usize, list: &[i32]) -> usize
     let mut k = at;
     let mut i = 0;
     while i < list.len() {
-        let p = paths::point_at(list, i);
+        let p = pairs::point_at(list, i);
         k = put_point_line(buf, k, b"point=", p);
         i += 2;
     }
     k
-}
-
-// 1 or 0.
-fn flag(b: bool) -> u32
-    ensures { λ r. ⌜ r ≡ cond b 1 0 ⌝ }
-{
-    if b {
-        return 1;
-    }
-    0
 }
 
 // A refusal number (0 found), pops, the number of waypoints, the route check and the waypoints.

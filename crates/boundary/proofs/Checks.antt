@@ -6,7 +6,7 @@ use Prim.Native.Nat.{ℕ}
 use lib.IntN.{ℤ}
 use Rattle.points.specs.declared.Refusal.the-variants.{State}
 use Rattle.grid.specs.declared.Verdict.the-variants.{Refused}
-use Rattle.floors.specs.Floors.{checkIn}
+use Rattle.checks.specs.Checks.{checkIn}
 use Rattle.boundary.specs.Lent.{groundOk}
 use Rattle.boundary.specs.Walks.{checkLent}
 use Rattle.boundary.proofs.Lent.{taken, passed}

@@ -2,7 +2,7 @@
 use mathlib.Core.Path.{_≡_, refl, sym, ap, _∙_}
 use mathlib.Core.Bool.{Bool, true, false, cond, not}
 use mathlib.Core.List.{List}
-use Prim.Native.Nat.{ℕ, _+_, _*_, _%_, _≤_, _<_}
+use Prim.Native.Nat.{ℕ, _*_, _%_, _≤_, _<_}
 use native.Mathlib.Omega.{arith}
 use lib.ListN.{length, getD}
 use lib.Dec.{ltb, leb, eqb}
@@ -11,14 +11,18 @@ use Rattle.points.specs.Plane.{legal}
 use Rattle.points.specs.declared.Point.{Point}
 use Rattle.points.specs.declared.Refusal.the-variants.{Size, State, BadPoint}
 use Rattle.masks.specs.Masks.{prunedIn}
-use Rattle.components.specs.Components.{Links, Forest, stateOk, rootOf}
-use Rattle.components.proofs.State.{and-true, state-of}
+use Rattle.components.specs.Components.{Links, Forest, rootOf}
+use Rattle.states.specs.States.{stateOk}
+use Rattle.components.proofs.Loops.{and-true}
+use Rattle.states.proofs.State.{state-of}
 use Rattle.cells.specs.Cells.{mostSide, sizedOf, placeOf, cellOf, Within}
 use Rattle.cells.proofs.Cell.{area, places}
-use Rattle.tables.specs.Tables.{Tables, Sides, Room, newOf, editOf, rebuiltLinks}
-use Rattle.tables.proofs.Joins.{sides-of}
+use Rattle.tables.specs.Tables.{Room, newOf, editOf, rebuiltLinks}
+use Rattle.cells.specs.Cells.{Sides}
+use Rattle.cells.proofs.Cell.{sides-of}
 use Rattle.questions.specs.Questions.{reachableOf, neighboursReachableOf, neighboursUnreachableOf}
-use Rattle.boundary.specs.Lent.{refusedAs, markOf, linksOk, coversOk, heldOf, roomyOf, groundOk, tables, Left, left, leftIn, marked, LeftLinks, leftLinks, withLinks, newLent, setLent, rebuildLent, updateLent, componentLent, locatedOf, after, maskLent, prunedLent, askedOf, told, reachableLent, unreachableLent, nearLent, farLent}
+use Rattle.packing.specs.Packing.{refusedAs, markOf}
+use Rattle.boundary.specs.Lent.{linksOk, coversOk, heldOf, roomyOf, groundOk, tables, left, marked, leftLinks, withLinks, newLent, setLent, rebuildLent, updateLent, componentLent, locatedOf, after, maskLent, prunedLent, askedOf, told, reachableLent, unreachableLent, nearLent, farLent}
 
 -- ---- choices whose tests are known
 

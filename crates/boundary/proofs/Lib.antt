@@ -1,4 +1,3 @@
-mod Choice
 mod Lent
 mod Searches
 mod Checks

@@ -8,7 +8,7 @@ use lib.Seq.{sets}
 use borrow.Author.Tests.{lt-ltb, le-ltb}
 use Rattle.points.specs.declared.Refusal.the-variants.{Room}
 use Rattle.router.specs.Route.{mostPrint, routeText}
-use Rattle.boundary.specs.Lent.{refusedAs}
+use Rattle.packing.specs.Packing.{refusedAs}
 use Rattle.boundary.specs.Texts.{printedOf, printKept}
 use Rattle.boundary.proofs.Lent.{taken, passed}
 

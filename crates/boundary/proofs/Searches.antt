@@ -2,7 +2,7 @@
 use mathlib.Core.Path.{_≡_, ap, _∙_}
 use mathlib.Core.Bool.{Bool, true, false}
 use mathlib.Core.List.{List}
-use Prim.Native.Nat.{ℕ, _*_}
+use Prim.Native.Nat.{ℕ}
 use lib.IntN.{ℤ}
 use Rattle.points.specs.declared.Point.{Point}
 use Rattle.points.specs.declared.Refusal.the-variants.{State}
@@ -10,10 +10,11 @@ use Rattle.costs.specs.declared.Settings.{Settings}
 use Rattle.goals.specs.declared.Plan.{Plan}
 use Rattle.offers.specs.Search.{Reply, refused}
 use Rattle.finder.specs.declared.Answer.{Answer}
-use Rattle.finder.specs.declared.Lengths.{Lengths}
+use Rattle.plans.specs.declared.Lengths.{Lengths}
 use Rattle.finder.specs.Find.{Ground, Covered, answerOf, outAfter, singleOf, severalOf}
-use Rattle.boundary.specs.declared.Route.{Route}
-use Rattle.boundary.specs.Searches.{heldIn, singleLent, severalLent, routeOf}
+use Rattle.replies.specs.declared.Route.{Route}
+use Rattle.replies.specs.Replies.{routeOf}
+use Rattle.boundary.specs.Searches.{heldIn, singleLent, severalLent}
 use Rattle.boundary.proofs.Lent.{taken, passed, Covers}
 
 pub covered : (n : ℕ) (b e f : List ℕ) → Covers n b e f → Covered n b e f

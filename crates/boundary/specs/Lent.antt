@@ -1,5 +1,5 @@
 -- The calls on tables that the host lends: the tests before each, what it answers, and what it leaves in them. Assumes nothing: these are definitions.
-use mathlib.Core.Bool.{Bool, true, false, not, cond, _&&_}
+use mathlib.Core.Bool.{Bool, not, cond, _&&_}
 use mathlib.Core.List.{List}
 use Prim.Native.Nat.{ℕ, _+_, _*_, _%_}
 use lib.Dec.{ltb, leb, eqb}
@@ -7,22 +7,14 @@ use lib.ListN.{length, getD}
 use Rattle.points.specs.Plane.{legal}
 use Rattle.points.specs.Refusals.{toldOf}
 use Rattle.points.specs.declared.Point.{Point}
-use Rattle.points.specs.declared.Refusal.{Refusal}
 use Rattle.points.specs.declared.Refusal.the-variants.{Size, State, BadPoint}
 use Rattle.masks.specs.Masks.{prunedIn}
-use Rattle.components.specs.Components.{Links, stateOk, rootOf}
+use Rattle.components.specs.Components.{Links, rootOf}
+use Rattle.states.specs.States.{stateOk}
 use Rattle.cells.specs.Cells.{sizedOf, placeOf, cellOf}
 use Rattle.tables.specs.Tables.{Tables, newOf, editOf, rebuiltLinks}
+use Rattle.packing.specs.Packing.{refusedAs, markOf}
 use Rattle.questions.specs.Questions.{reachableOf, neighboursReachableOf, neighboursUnreachableOf}
-
--- a refusal as an answer
-abbrev pub refusedAs : Refusal → ℕ
-refusedAs r = 4294967296 * toldOf r .number
-
--- yes and no as an answer
-abbrev pub markOf : Bool → ℕ
-markOf true = 1
-markOf false = 0
 
 -- ---- the tests
 

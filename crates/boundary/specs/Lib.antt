@@ -1,4 +1,3 @@
-pub mod Packing
 pub mod Lent
 pub mod Searches
 pub mod Walks

@@ -7,7 +7,7 @@ use lib.ListN.{length}
 use lib.Seq.{sets}
 use Rattle.points.specs.declared.Refusal.the-variants.{Room}
 use Rattle.router.specs.Route.{mostPrint, routeText}
-use Rattle.boundary.specs.Lent.{refusedAs}
+use Rattle.packing.specs.Packing.{refusedAs}
 
 -- ROOM where the most that is printed would not fit; else how many bytes are printed
 unfoldable pub printedOf : List ℕ → ℕ → ℕ

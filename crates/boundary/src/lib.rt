@@ -1,83 +1,34 @@
 // Barnsling for C and Rust: numbers and lent slices. A flag is 0 or not; no call trusts what it is passed.
 ghost use mathlib.Core.Path.{_≡_};
-ghost use mathlib.Core.Bool.{false, cond, not};
-ghost use Prim.Native.Nat.{_+_, _*_, _%_, _<_};
-ghost use lib.Dec.{eqb};
-ghost use Rattle.points.specs.Plane.{legal};
-ghost use Rattle.points.specs.Compass.{directionOf};
+ghost use mathlib.Core.Bool.{false};
+ghost use Prim.Native.Nat.{_%_};
+ghost use Rattle.headings.specs.Headings.{directionOf};
 ghost use Rattle.costs.specs.Cost.{distanceOf};
 ghost use Rattle.costs.specs.Scale.{scaledOf};
 ghost use Rattle.masks.specs.Masks.{forcedOf, prunedIn};
 ghost use lib.ListN.{length};
 ghost use Rattle.finder.specs.Find.{ground, lengthsOf, answerOf, outAfter, singlePlan, severalPlan};
-ghost use Rattle.boundary.specs.Searches.{settingsOf, singleLent, severalLent, routeOf};
-ghost use Rattle.boundary.specs.Packing.{flagOf, pointOf, refusedWith, headingPacked, measurePacked};
-ghost use Rattle.boundary.specs.Lent.{refusedAs, markOf, linksOk, groundOk, coversOk, heldOf, roomyOf, tables, left, leftLinks, newLent, setLent, rebuildLent, updateLent, componentLent, locatedOf, maskLent, prunedLent, askedOf, reachableLent, unreachableLent, nearLent, farLent};
-use costs::Measure;
+ghost use Rattle.packing.specs.Packing.{flagOf, pointOf, headingPacked, measurePacked, settingsOf};
+ghost use Rattle.replies.specs.Replies.{routeOf};
+ghost use Rattle.boundary.specs.Searches.{singleLent, severalLent};
+ghost use Rattle.boundary.specs.Lent.{linksOk, groundOk, coversOk, heldOf, roomyOf, tables, left, leftLinks, newLent, setLent, rebuildLent, updateLent, componentLent, locatedOf, maskLent, prunedLent, askedOf, reachableLent, unreachableLent, nearLent, farLent};
 use costs::Settings;
 use finder::Answer;
-use finder::Outcome;
-use points::Heading;
+use packing::direction;
+use packing::distance;
+use packing::flag;
+use packing::mark;
+use packing::point;
+use packing::refused_as;
+use packing::scaled_distance;
+use packing::settings;
 use points::Point;
 use points::Refusal;
-use points::Told;
+use replies::Route;
+use replies::routed;
 
 mod texts;
 mod walks;
-
-fn flag(b: u8) -> bool
-    ensures { λ r. ⌜ r ≡ flagOf b ⌝ }
-{
-    b != 0
-}
-
-// A refusal of a call on two points, of which a is the first.
-fn refused(t: Told, a: Point) -> u64
-    ensures { λ r. ⌜ r ≡ refusedWith t a ⌝ }
-{
-    let number = t.number as u64;
-    if a.legal() {
-        return 4294967296 * (number + 512);
-    }
-    4294967296 * (number + 256)
-}
-
-fn measured(m: Measure, a: Point) -> u64
-    ensures { λ r. ⌜ r ≡ measurePacked m a ⌝ }
-{
-    match m {
-        Measure::Cost(c) => c as u64,
-        Measure::Refused(r) => refused(r.told(), a),
-    }
-}
-
-fn point(x: i32, y: i32) -> Point
-    ensures { λ r. ⌜ r ≡ pointOf x y ⌝ }
-{
-    Point { x, y }
-}
-
-fn direction(a: Point, b: Point) -> u64
-    ensures { λ r. ⌜ r ≡ headingPacked (directionOf a b) a ⌝ }
-{
-    let h = points::direction_to(a, b);
-    match h {
-        Heading::Toward(d) => d.number as u64,
-        Heading::Refused(r) => refused(r.told(), a),
-    }
-}
-
-fn distance(diagonal: bool, a: Point, b: Point) -> u64
-    ensures { λ r. ⌜ r ≡ measurePacked (distanceOf diagonal a b) a ⌝ }
-{
-    measured(costs::distance(diagonal, a, b), a)
-}
-
-fn scaled_distance(diagonal: bool, factor: f32, a: Point, b: Point) -> u64
-    ensures { λ r. ⌜ r ≡ measurePacked (scaledOf diagonal factor a b) a ⌝ }
-{
-    measured(costs::scaled_distance(diagonal, factor, a, b), a)
-}
 
 // The forced mask of a neighbour mask.
 #[no_mangle]
@@ -126,24 +77,6 @@ pub extern "C" fn barnsling_scaled_distance(
     scaled_distance(flag(diagonal), factor, point(ax, ay), point(bx, by))
 }
 
-// A refusal alone.
-fn refused_as(r: Refusal) -> u64
-    ensures { λ n. ⌜ n ≡ refusedAs r ⌝ }
-{
-    let t = r.told();
-    let number = t.number as u64;
-    4294967296 * number
-}
-
-fn mark(b: bool) -> u64
-    ensures { λ r. ⌜ r ≡ markOf b ⌝ }
-{
-    if b {
-        return 1;
-    }
-    0
-}
-
 // Whether the sides are in range, parents and ranks have a place for each cell, and the state is legal.
 fn linked(parent: &[u16], rank: &[u8], w: usize, h: usize) -> bool
     ensures { λ r. ⌜ r ≡ linksOk w h (now (parent .entry)) (now (rank .entry)) ⌝ }
@@ -158,7 +91,7 @@ fn linked(parent: &[u16], rank: &[u8], w: usize, h: usize) -> bool
     if rank.len() < n {
         return false;
     }
-    components::state_ok(parent, rank, n)
+    states::state_ok(parent, rank, n)
 }
 
 // `linked`, and whether a table has a place for each cell.
@@ -553,66 +486,6 @@ pub extern "C" fn barnsling_neighbours_unreachable(
     let a = cells::cell_of(w, h, start);
     let c = cells::cell_of(w, h, goal);
     mark(questions::neighbours_unreachable(w, h, flag(diagonal), parent, rank, a, c))
-}
-
-// What a search answers, as numbers: its refusal or 0, its pops, how many waypoints were written, the cost at the goal's pop, and the point that a refusal concerns.
-#[repr(C)]
-pub struct Route {
-    pub refusal: u64,
-    pub pops: u64,
-    pub waypoints: u64,
-    pub cost: u64,
-    pub x: i32,
-    pub y: i32,
-}
-
-fn routed(a: Answer) -> Route
-    ensures { λ r. ⌜ r ≡ routeOf a ⌝ }
-{
-    let pops = a.pops as u64;
-    let o = a.outcome;
-    match o {
-        Outcome::Found(n, k) => Route {
-            refusal: 0,
-            pops,
-            waypoints: n as u64,
-            cost: k,
-            x: 0,
-            y: 0,
-        },
-        Outcome::Refused(w) => {
-            let t = w.told();
-            let q = t.point;
-            Route {
-                refusal: t.number as u64,
-                pops,
-                waypoints: 0,
-                cost: 0,
-                x: q.x,
-                y: q.y,
-            }
-        }
-    }
-}
-
-fn settings(
-    factor: f32,
-    diagonal: bool,
-    improved: bool,
-    depth: usize,
-    pops: usize,
-    fringe: usize,
-) -> Settings
-    ensures { λ r. ⌜ r ≡ settingsOf factor diagonal improved depth pops fringe ⌝ }
-{
-    Settings {
-        factor,
-        diagonal,
-        improved,
-        depth,
-        pops,
-        fringe,
-    }
 }
 
 fn single(

@@ -11,7 +11,7 @@ pub extern "C" fn barnsling_route_text(text: &[u8], out: &mut [u8]) -> u64
     ensures { λ r. ⌜ (r ≡ printedOf (now (text .entry)) (length (now (out .entry)))) × (now (out .exit) ≡ printKept (now (text .entry)) (now (out .entry))) ⌝ }
 {
     if out.len() < router::PRINT {
-        return super::refused_as(Refusal::Room);
+        return packing::refused_as(Refusal::Room);
     }
     router::route(text, out) as u64
 }

@@ -1,15 +1,17 @@
 -- Laws of cells' numbers.
 -- Assumes nothing.
-use Prim.Native.Nat.{ℕ, _+_, _-_, _*_, _/_, _%_, _≤_, _<_}
-use mathlib.Core.Path.{_≡_, refl}
+use Prim.Native.Nat.{ℕ, suc, _+_, _-_, _*_, _/_, _%_, _≤_, _<_}
+use mathlib.Core.Path.{_≡_, refl, sym, ap}
 use mathlib.Core.Bool.{Bool, true, false, true≢false, cond, _&&_}
-use lib.Dec.{ltb}
+use mathlib.Core.Logic.{⊎-elim, _⊎_, inl, inr}
+use lib.Dec.{ltb, leb}
 use lib.IntN.{ℤ, pos, negsuc, natAbs}
 use lib.Signed.{ltZ}
-use borrow.Author.Tests.{le-leb, lt-leb, le-ltb, lt-ltb, ltb-true}
-use Rattle.cells.specs.Cells.{mostSide, Within, cellAt, cellTo, placeOf, cellOf}
+use borrow.Author.Tests.{le-leb, lt-leb, le-ltb, lt-ltb, ltb-true, leb-true, leb-false}
+use Rattle.components.proofs.Loops.{and-true}
+use Rattle.cells.specs.Cells.{mostSide, sizedOf, Sides, Within, cellAt, cellTo, placeOf, cellOf}
 use Rattle.points.specs.declared.Point.{Point}
-use Rattle.points.specs.Compass.{offX, offY}
+use Rattle.directions.specs.Offsets.{offX, offY}
 use native.Mathlib.Omega.{arith}
 use native.Mathlib.Nat.{suc-mul, mul-comm, mul-le-mul-right, mul-le-mul, div-lt-iff-lt-mul, mod-eq-of-lt}
 
@@ -100,3 +102,43 @@ places w h p l = go (ltb (placeOf (p .x) w) w) (ltb (placeOf (p .y) h) h) refl r
     go true true a b m = (ltb-true _ _ a, ltb-true _ _ b)
     go true false a b m = absurd (omega arith)
     go false t a b m = absurd (omega arith)
+
+-- what the test of the sides says
+pub sides-of : {w h : ℕ} → sizedOf w h ≡ true → Sides w h
+unfolding sizedOf
+sides-of {w} {h} e =
+    let a = and-true (leb 1 w) (leb w mostSide && (leb 1 h && leb h mostSide)) e in
+    let b = and-true (leb w mostSide) (leb 1 h && leb h mostSide) (a .1) in
+    let c = and-true (leb 1 h) (leb h mostSide) (b .1) in
+    record { some = leb-true 1 w (a .0); wide = leb-true w mostSide (b .0); high = leb-true h mostSide (c .1) }
+
+pub le-or-gt : (a b : ℕ) → (a ≤ b) ⊎ (b < a)
+le-or-gt a b = go (leb a b) refl
+  where
+    go : (t : Bool) → leb a b ≡ t → (a ≤ b) ⊎ (b < a)
+    go true e = inl (leb-true a b e)
+    go false e = inr (leb-false a b e)
+
+-- a cell's number tells its place
+pub same-row : (w x y i j : ℕ) → x < w → i < w → y * w + x ≡ j * w + i → y ≤ j
+same-row w x y i j hx hi e =
+    ⊎-elim (λ l. l) (λ l. absurd (no (mul-le-mul-right w l))) (le-or-gt y j)
+  where
+    no : suc j * w ≤ y * w → ⊥
+    no m = omega (arith, suc-mul j w)
+
+pub same-cell : (w x y i j : ℕ) → x < w → i < w → y * w + x ≡ j * w + i → (x ≡ i) × (y ≡ j)
+same-cell w x y i j hx hi e =
+    let r : y ≡ j = omega (arith, same-row w x y i j hx hi e, same-row w i j x y hi hx (sym e)) in
+    let p : y * w ≡ j * w = ap (λ k. k * w) r in
+    (omega arith, r)
+
+-- inside, or at w * h
+pub in-or-out : (w h p q : ℕ) → (cellAt w h p q ≡ w * h) ⊎ ((1 ≤ p) × (p ≤ w) × (1 ≤ q) × (q ≤ h))
+unfolding cellAt
+in-or-out w h p q =
+    ⊎-elim (λ a. ⊎-elim (λ b. ⊎-elim (λ c. ⊎-elim (λ d. inr (a, b, c, d))
+    (λ d. inl (simp (le-leb 1 p a, le-leb p w b, le-leb 1 q c, lt-leb q h d))) (le-or-gt q h))
+    (λ c. inl (simp (le-leb 1 p a, le-leb p w b, lt-leb 1 q c))) (le-or-gt 1 q))
+    (λ b. inl (simp (le-leb 1 p a, lt-leb p w b))) (le-or-gt p w))
+    (λ a. inl (simp (lt-leb 1 p a))) (le-or-gt 1 p)

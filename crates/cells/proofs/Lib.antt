@@ -1,4 +1,2 @@
 pub mod Small
 pub mod Cell
-pub mod Updates
-pub mod Right

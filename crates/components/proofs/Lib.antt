@@ -1,5 +1,3 @@
-pub mod State
-pub mod Blocks
+pub mod Loops
 pub mod Roots
 pub mod Weight
-pub mod Examples

@@ -2,11 +2,11 @@
 -- Assumes nothing.
 use mathlib.Core.Path.{_≡_}
 use mathlib.Core.Logic.{_⊎_}
-use mathlib.Core.Bool.{Bool, true, cond, _&&_, _||_}
+use mathlib.Core.Bool.{cond}
 use mathlib.Core.List.{List}
 use Prim.Native.Nat.{ℕ, zero, suc, _+_, _^_, _≤_, _<_}
 use lib.ListN.{length, getD, set}
-use lib.Dec.{eqb, ltb, leb}
+use lib.Dec.{eqb, ltb}
 
 -- cell i is its own parent, or its parent is a cell of higher rank
 abbrev pub Up : ℕ → List ℕ → List ℕ → ℕ → Type 0
@@ -18,20 +18,6 @@ pub record Forest (b n : ℕ) (p k : List ℕ) : Type 0 where
   pub in-k : n ≤ length k
   pub low : (i : ℕ) → i < n → getD k i 0 ≤ b
   pub up : (i : ℕ) → i < n → Up n p k i
-
--- the test f passes at each number below n
-abbrev pub allTo : (ℕ → Bool) → ℕ → Bool
-allTo f zero = true
-allTo f (suc n) = allTo f n && f n
-
--- STATE's test of a cell: its rank is at most 200, and its parent is itself or a cell of higher rank
-unfoldable pub cellOk : ℕ → List ℕ → List ℕ → ℕ → Bool
-cellOk n p k i =
-    leb (getD k i 0) 200 && (eqb (getD p i 0) i || (ltb (getD p i 0) n && ltb (getD k i 0) (getD k (getD p i 0) 0)))
-
--- of the first n cells: true exactly of a legal state (state-of and of-state of proofs/State)
-abbrev pub stateOk : ℕ → List ℕ → List ℕ → Bool
-stateOk n p k = allTo (cellOk n p k) n
 
 -- f steps from x to the parent. A root is its own parent, so further steps stay there
 unfoldable pub climb : ℕ → List ℕ → ℕ → ℕ

@@ -8,12 +8,14 @@ use lib.ListN.{length, getD, length-set}
 use Rattle.components.specs.Components.{Links, Light}
 use Rattle.components.proofs.Weight
 use Rattle.masks.specs.Masks.{forcedOf}
-use Rattle.cells.specs.Cells.{MasksRight, fillTo, maskAt, newBlocked, newParent}
+use Rattle.fills.specs.Fills.{MasksRight, fillTo, maskAt, newBlocked, newParent}
 use Rattle.cells.proofs.Cell.{cell-lt}
-use Rattle.cells.proofs.Updates.{length-fillTo, get-fillTo}
-use Rattle.cells.proofs.Right.{fill-right}
-use Rattle.tables.specs.Tables.{Tables, Room, linksOf, blocks, around, joinedTo, singles, newOf, editOf, rebuildOf, updateOf}
-use Rattle.tables.proofs.Joins.{Held, held-joined, held-columns, held-singles}
+use Rattle.fills.proofs.Fills.{length-fillTo, get-fillTo, fill-right}
+use Rattle.tables.specs.Tables.{Tables, Room, linksOf, singles, newOf, editOf, rebuildOf, updateOf}
+use Rattle.refresh.specs.Refresh.{blocks}
+use Rattle.joins.specs.Joins.{around, joinedTo}
+use Rattle.joins.proofs.Joins.{Held, held-joined}
+use Rattle.tables.proofs.Changes.{held-columns, held-singles}
 use Rattle.demand.proofs.Runs.{Call, edit, rebuild, update, afterCalls}
 use Rattle.demand.proofs.Masks.{Follows, forced-kept, right-small, length-masks, length-forced, fill-follows, edit-right}
 

@@ -10,11 +10,12 @@ use borrow.Author.Tests.{lt-ltb, eq-eqb}
 use Rattle.points.specs.declared.Point.{Point}
 use Rattle.masks.specs.Masks.{forcedOf}
 use Rattle.components.specs.Components.{Same, rootOf}
-use Rattle.components.proofs.State.{and-true}
-use Rattle.cells.specs.Cells.{sizedOf, placeOf, cellOf, MasksRight}
+use Rattle.components.proofs.Loops.{and-true}
+use Rattle.cells.specs.Cells.{sizedOf, placeOf, cellOf}
+use Rattle.fills.specs.Fills.{MasksRight}
 use Rattle.cells.proofs.Cell.{cell-lt, of-inside, places}
 use Rattle.tables.specs.Tables.{Tables, editOf, rebuildOf, updateOf, mostRank}
-use Rattle.tables.proofs.Joins.{fits}
+use Rattle.tables.proofs.Changes.{fits}
 use Rattle.questions.specs.Questions.{reachableOf, rootedOf}
 use Rattle.grid.specs.declared.Grid.{Grid}
 use Rattle.grid.specs.declared.Outcome.{Outcome}

@@ -7,6 +7,5 @@ pub mod Good
 pub mod Starts
 pub mod Theorem
 pub mod Grids
-pub mod Examples
 pub mod Shuts
 pub mod Ranks

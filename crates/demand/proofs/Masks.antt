@@ -12,10 +12,13 @@ use lib.Dec.{ltb}
 use native.Mathlib.Nat.{div-add-mod', mod-lt}
 use borrow.Author.Tests.{lt-ltb, eqb-false}
 use Rattle.masks.specs.Masks.{forcedOf}
-use Rattle.cells.specs.Cells.{cellTo, touched, touchedTo, masksAfter, allowedOf, freeBit, fixed, fixedTo, fixedAll, forcedAfter, MasksRight, maskOf, fillTo}
+use Rattle.cells.specs.Cells.{cellTo}
+use Rattle.refresh.specs.Refresh.{touched, touchedTo, masksAfter, allowedOf, fixed, fixedTo, fixedAll, forcedAfter}
+use Rattle.fills.specs.Fills.{freeBit, MasksRight, maskOf, fillTo}
 use Rattle.cells.proofs.Cell.{cell-lt, row-lt}
-use Rattle.cells.proofs.Updates.{length-touchedTo, length-fixedTo, fixed-skip, get-fillTo}
-use Rattle.cells.proofs.Right.{masks-kept, get-pick, touched-hit, touched-miss, small-to, forced-odd, free-small, mask-small}
+use Rattle.refresh.proofs.Updates.{length-touchedTo, length-fixedTo, fixed-skip}
+use Rattle.fills.proofs.Fills.{get-fillTo, free-small, mask-small}
+use Rattle.tables.proofs.Right.{masks-kept, get-pick, touched-hit, touched-miss, small-to, forced-odd}
 
 -- each forced mask is that of the cell's neighbour mask
 unfoldable pub Follows : ℕ → List ℕ → List ℕ → Type 0

@@ -9,8 +9,9 @@ use Rattle.components.specs.Components.{Links, Forest}
 use Rattle.components.proofs.Roots
 use Rattle.cells.specs.Cells.{cellTo, placeOf}
 use Rattle.cells.proofs.Cell.{cell-lt, places}
-use Rattle.tables.specs.Tables.{Tables, linksOf, around, joinCell, joinedTo, editOf}
-use Rattle.tables.proofs.Joins.{join-cases}
+use Rattle.tables.specs.Tables.{Tables, linksOf, editOf}
+use Rattle.joins.specs.Joins.{around, joinCell, joinedTo}
+use Rattle.joins.proofs.Joins.{join-cases}
 use Rattle.grid.specs.declared.Outcome.{Outcome}
 use Rattle.grid.specs.declared.Outcome.the-variants.{Done, Refused}
 use Rattle.grid.specs.Grids.{tablesOf, locatedOf, changed, editGrid, setOutcome}

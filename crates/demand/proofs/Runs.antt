@@ -4,7 +4,7 @@ use mathlib.Core.Bool.{Bool, true, not, _&&_}
 use mathlib.Core.List.{List, [], _∷_}
 use Prim.Native.Nat.{ℕ, _*_, _<_}
 use Rattle.components.specs.Components.{Same}
-use Rattle.cells.specs.Cells.{MasksRight}
+use Rattle.fills.specs.Fills.{MasksRight}
 use Rattle.tables.specs.Tables.{Tables, editOf, rebuildOf, updateOf}
 use Rattle.demand.specs.Walks.{Walk}
 use Rattle.demand.specs.Demand3.{ForcedRight}

@@ -14,8 +14,10 @@ use Rattle.components.specs.Components.{Links, united, Same, SameWith}
 use Rattle.components.proofs.Roots
 use Rattle.components.proofs.Weight
 use Rattle.cells.specs.Cells.{cellTo}
-use Rattle.tables.specs.Tables.{ahead, joinCell, joinedTo, cellJoined, columnTo, columnsTo}
-use Rattle.tables.proofs.Joins.{join-cases, join-free, Held, cell-free}
+use Rattle.joins.specs.Joins.{ahead, joinCell, joinedTo}
+use Rattle.tables.specs.Tables.{cellJoined, columnTo, columnsTo}
+use Rattle.joins.proofs.Joins.{join-cases, join-free, Held}
+use Rattle.tables.proofs.Changes.{cell-free}
 use Rattle.demand.proofs.Ways.{In}
 
 abbrev pub joinTo : Links → ℕ → ℕ → Links

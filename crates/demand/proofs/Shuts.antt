@@ -9,8 +9,9 @@ use native.Mathlib.Omega.{arith}
 use native.Mathlib.Decide.{ℕ-discrete}
 use lib.ListN.{length, getD, length-replicate, set}
 use lib.Seq.{getD-set-same}
-use Rattle.cells.specs.Cells.{mostSide, sizedOf, cellOf, newBlocked}
-use Rattle.cells.proofs.Updates.{length-fillTo, get-fillTo}
+use Rattle.cells.specs.Cells.{mostSide, sizedOf, cellOf}
+use Rattle.fills.specs.Fills.{newBlocked}
+use Rattle.fills.proofs.Fills.{length-fillTo, get-fillTo}
 use Rattle.tables.specs.Tables.{newOf, editOf, rebuildOf}
 use Rattle.points.specs.declared.Refusal.the-variants.{Size}
 use Rattle.grid.specs.declared.Grid.{Grid}

@@ -8,16 +8,16 @@ use lib.Dec.{T, leb, ltb}
 use lib.ListN.{length, drop, length-replicate, getD-replicate}
 use lib.Seq.{length-sets}
 use Rattle.points.specs.declared.Refusal.the-variants.{Size}
-use Rattle.cells.specs.Cells.{mostSide, sizedOf}
-use Rattle.cells.proofs.Cell.{area}
-use Rattle.tables.specs.Tables.{Tables, Sides, newOf, mostRank}
-use Rattle.tables.proofs.Joins.{fits, sides-of}
+use Rattle.cells.specs.Cells.{mostSide, sizedOf, Sides}
+use Rattle.cells.proofs.Cell.{area, sides-of}
+use Rattle.tables.specs.Tables.{Tables, newOf, mostRank}
+use Rattle.tables.proofs.Changes.{fits}
 use Rattle.grid.specs.declared.Grid.{Grid}
 use Rattle.grid.specs.declared.Outcome.the-variants.{Done, Refused}
 use Rattle.grid.specs.declared.Change.{Change}
 use Rattle.grid.specs.Grids.{gridOf, zeros, empty, newGrid, newOutcome}
-use Rattle.maps.specs.Maps.{mostText, sideOk, headOf, cellsOf, mapOf, intoTable, cellsInto}
-use Rattle.maps.specs.Shown.{Fair}
+use Rattle.rows.specs.Rows.{cellsOf}
+use Rattle.maps.specs.Maps.{mostText, sideOk, headOf, Fair, mapOf, intoTable, cellsInto}
 use Rattle.maps.specs.declared.Header.{Header}
 use Rattle.maps.specs.declared.Head.{Head}
 use Rattle.maps.specs.declared.Head.the-variants.{Of, Bad as BadHead}

@@ -12,12 +12,14 @@ use lib.Seq.{getD-set-same, getD-set-other}
 use Rattle.components.specs.Components.{Links, Same, rootOf}
 use Rattle.components.proofs.Roots
 use Rattle.masks.specs.Masks.{forcedOf}
-use Rattle.cells.specs.Cells.{cellTo, MasksRight}
-use Rattle.cells.proofs.Cell.{cell-lt}
-use Rattle.cells.proofs.Right.{same-cell}
-use Rattle.cells.proofs.Updates.{get-fillTo}
-use Rattle.tables.specs.Tables.{Tables, linksOf, around, ahead, joinedTo, singles, columnsTo, editOf, rebuildOf}
-use Rattle.tables.proofs.Joins.{Held, held-singles, fits}
+use Rattle.cells.specs.Cells.{cellTo}
+use Rattle.fills.specs.Fills.{MasksRight}
+use Rattle.cells.proofs.Cell.{cell-lt, same-cell}
+use Rattle.fills.proofs.Fills.{get-fillTo}
+use Rattle.tables.specs.Tables.{Tables, linksOf, singles, columnsTo, editOf, rebuildOf}
+use Rattle.joins.specs.Joins.{around, ahead, joinedTo}
+use Rattle.joins.proofs.Joins.{Held}
+use Rattle.tables.proofs.Changes.{held-singles, fits}
 use Rattle.demand.specs.Walks.{Free, Step, Move, Walk, stay}
 use Rattle.demand.specs.Demand3.{ForcedRight}
 use Rattle.demand.proofs.Runs.{Edit, edited, afterEdits, noneBlocks, Clauses}

@@ -8,12 +8,11 @@ use native.Mathlib.Omega.{arith}
 use native.Mathlib.Decide.{ℕ-discrete}
 use lib.Dec.{T, eqb, ltb, eqb→eq, ltb→lt}
 use Rattle.cells.specs.Cells.{cellTo}
-use Rattle.points.specs.Compass.{offX, offY}
+use Rattle.directions.specs.Offsets.{offX, offY}
 use Rattle.points.proofs.Signed.{off-x-le, off-y-le}
-use Rattle.cells.proofs.Cell.{cell-in}
-use Rattle.cells.proofs.Right.{in-or-out}
+use Rattle.cells.proofs.Cell.{cell-in, in-or-out}
 use Rattle.cells.proofs.Small.{both-left, both-right}
-use Rattle.tables.specs.Tables.{around, ahead}
+use Rattle.joins.specs.Joins.{around, ahead}
 use Rattle.demand.specs.Walks.{Step}
 
 -- d is in the list

@@ -16,7 +16,8 @@ use lib.ListN.{length, getD}
 use Rattle.points.specs.declared.Point.{Point}
 use Rattle.masks.specs.Masks.{forcedOf}
 use Rattle.components.specs.Components.{rootOf}
-use Rattle.cells.specs.Cells.{mostSide, MasksRight, maskOf}
+use Rattle.cells.specs.Cells.{mostSide}
+use Rattle.fills.specs.Fills.{MasksRight, maskOf}
 use Rattle.tables.specs.Tables.{mostRank}
 use Rattle.grid.specs.declared.Grid.{Grid}
 use Rattle.grid.specs.declared.Verdict.the-variants.{No}

@@ -1,1 +1,7 @@
-pub mod Table
+pub mod Proved
+pub mod Ground
+pub mod Jumps
+pub mod Searches
+pub mod Texts
+pub mod Tables
+pub mod Lists

@@ -1,1 +1,1 @@
-// Nothing runs here: proofs/Table.antt is the scope's table of proved examples, as one theorem.
+// A theorem crate, without code: document 01's table of proved examples, and what the definitions that the contracts cite give at small inputs.

@@ -6,7 +6,7 @@ use native.Mathlib.Nat.{le-refl, add-mul, one-mul}
 use native.Mathlib.Numerals.{add-one}
 use native.Mathlib.Omega.{arith}
 use lib.ListN.{length}
-use Rattle.points.specs.Compass.{headingOf}
+use Rattle.headings.specs.Headings.{headingOf}
 use Rattle.points.specs.declared.Point.{Point}
 use Rattle.points.specs.declared.Heading.{Heading}
 use Rattle.points.specs.declared.Heading.the-variants.{Toward, Refused}
@@ -18,13 +18,15 @@ use Rattle.nodes.specs.Bound.{edgeOf}
 use Rattle.offers.specs.Search.{State, Out, ok, areaOf, guessAt, Fit}
 use Rattle.offers.proofs.Laws.{area-is}
 use Rattle.offers.proofs.Good.{same-ok, never-no, offer-fit, offer-floor, each-keeps}
-use Rattle.jumps.specs.declared.Cell.{Cell}
-use Rattle.jumps.specs.declared.Jump.{Jump}
-use Rattle.jumps.specs.declared.Jump.the-variants.{At, Nothing}
-use Rattle.jumps.specs.Floor.{Inside, spotOf, numberOf, jumpOf, priceOf}
-use Rattle.jumps.proofs.Laws.{place-lt}
+use Rattle.stops.specs.declared.Cell.{Cell}
+use Rattle.stops.specs.declared.Jump.{Jump}
+use Rattle.stops.specs.declared.Jump.the-variants.{At, Nothing}
+use Rattle.stops.specs.Stops.{Inside, spotOf, numberOf, priceOf}
+use Rattle.jumps.specs.Jumps.{jumpOf}
+use Rattle.stops.proofs.Laws.{place-lt}
 use Rattle.jumps.proofs.Found.{jump-found}
-use Rattle.expansion.specs.Expand.{Tables, againAt, giveOf, reached, followWith, travelled, expandWith, deeperAt, followAt, expandAt}
+use Rattle.successors.specs.Successors.{againAt, giveOf}
+use Rattle.expansion.specs.Expand.{Tables, reached, followWith, travelled, expandWith, deeperAt, followAt, expandAt}
 
 -- one level more is one jump more
 more : (m j : ℕ) → (m + 1) * j ≡ m * j + j

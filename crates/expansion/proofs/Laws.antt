@@ -1,9 +1,9 @@
 -- The definitions of the expansion, by what its tests and calls say. Assumes nothing.
 use mathlib.Core.Path.{_≡_, refl}
-use mathlib.Core.Bool.{Bool, true, false, not}
+use mathlib.Core.Bool.{true, false}
 use Prim.Native.Nat.{ℕ, zero, suc, _+_, _-_, _%_}
 use native.Mathlib.Omega.{arith}
-use Rattle.points.specs.Compass.{headingOf}
+use Rattle.headings.specs.Headings.{headingOf}
 use Rattle.points.specs.declared.Point.{Point}
 use Rattle.points.specs.declared.Direction.{Direction}
 use Rattle.points.specs.declared.Refusal.{Refusal}
@@ -11,17 +11,14 @@ use Rattle.points.specs.declared.Heading.the-variants.{Toward, Refused}
 use Rattle.points.specs.declared.Refusal.the-variants.{Depth, Same}
 use Rattle.masks.specs.Masks.{hasBit, prunedIn}
 use Rattle.goals.specs.declared.Plan.{Plan}
-use Rattle.goals.specs.Goals.{both}
 use Rattle.offers.specs.Search.{State, Out, ok, no, each}
-use Rattle.jumps.specs.declared.Cell.{Cell}
-use Rattle.jumps.specs.declared.Jump.{Jump}
-use Rattle.jumps.specs.declared.Jump.the-variants.{At, Nothing}
-use Rattle.jumps.specs.Floor.{spotOf, byteAt, jumpOf, priceOf}
-use Rattle.expansion.specs.Expand.{Tables, againAt, giveOf, reached, followWith, expandWith, deeperAt, expandAt}
-
--- three tests that all say yes, the last by saying no
-pub all-of : (a b s r : Bool) → a ≡ true → b ≡ true → r ≡ s → not r ≡ both a (both b (not s))
-all-of a b s r p q e = rw (p, q, e)
+use Rattle.stops.specs.declared.Cell.{Cell}
+use Rattle.stops.specs.declared.Jump.{Jump}
+use Rattle.stops.specs.declared.Jump.the-variants.{At, Nothing}
+use Rattle.stops.specs.Stops.{spotOf, byteAt, priceOf}
+use Rattle.jumps.specs.Jumps.{jumpOf}
+use Rattle.successors.specs.Successors.{againAt, giveOf}
+use Rattle.expansion.specs.Expand.{Tables, reached, followWith, expandWith, deeperAt, expandAt}
 
 -- following one direction: nothing, or what its jump found
 module _ (t : Tables) (p : Plan) (from : ℕ) (deeper : Point → Cell → ℕ → State → Out) (above : Point) (node : Cell) (mask price base e : ℕ) (s : State) where

@@ -19,10 +19,11 @@ use Rattle.offers.specs.declared.Mark.{Mark}
 use Rattle.offers.specs.Search.{State, ok, view, areaOf, placePoint, guessAt, Sides, Good, Next, Lent}
 use Rattle.offers.proofs.Laws.{area-is, point-start, point-cell, cell-legal, guess-low}
 use Rattle.offers.proofs.Good.{offer-next}
-use Rattle.jumps.specs.declared.Cell.{Cell}
-use Rattle.jumps.specs.Floor.{Inside, numberOf}
-use Rattle.jumps.proofs.Laws.{place-lt}
-use Rattle.expansion.specs.Expand.{Tables, Floors, Ready, Backed, giveOf, cellOf, leapOf, expandAt}
+use Rattle.stops.specs.declared.Cell.{Cell}
+use Rattle.stops.specs.Stops.{Inside, numberOf}
+use Rattle.stops.proofs.Laws.{place-lt}
+use Rattle.successors.specs.Successors.{giveOf}
+use Rattle.expansion.specs.Expand.{Tables, Floors, Ready, cellOf, leapFrom, leapOf, expandAt}
 use Rattle.expansion.proofs.Keeps.{expand-keeps}
 
 -- a place that is at most the area has a point in range
@@ -46,25 +47,24 @@ place-le goals p number place parent cost keys idx m i a h =
     omega (arith, getD-take (m .count) place i 0 h, s .within i l, a .floor)
 
 -- what the expansion of a node asks, from what the node is
-pub leap-ready : (t : Tables) (p : Plan) (from k : ℕ) (number place parent cost keys idx : List ℕ) (m : Mark) (above : Point) (node : Cell) → Lent (t .goals) p number place parent cost keys idx m → Floors t p → T (legal (p .start)) → from < m .count
-    → Backed p place parent (m .count) from → k + edgeOf mostSide (p .settings .depth) < 2 ^ 40
-    → above ≡ placePoint p (getD place (getD parent from 0) 0) → node ≡ cellOf (p .w) (getD place from 0) → Ready t p from above node k (p .settings .depth) number place parent cost keys idx m
-leap-ready t p from k number place parent cost keys idx m above node a f g h b l e d =
+pub leap-ready : (t : Tables) (p : Plan) (from up k : ℕ) (number place parent cost keys idx : List ℕ) (m : Mark) (above : Point) (node : Cell) → Lent (t .goals) p number place parent cost keys idx m → Floors t p → T (legal (p .start)) → from < m .count
+    → up < m .count → getD place from 0 < areaOf p → k + edgeOf mostSide (p .settings .depth) < 2 ^ 40
+    → above ≡ placePoint p (getD place up 0) → node ≡ cellOf (p .w) (getD place from 0) → Ready t p from above node k (p .settings .depth) number place parent cost keys idx m
+leap-ready t p from up k number place parent cost keys idx m above node a f g h b c l e d =
     record {
       floors = f;
       lent = a;
-      seen = subst (λ (z : Point). T (legal z)) (sym e) (above-legal p _ (a .sides) g (place-le (t .goals) p number place parent cost keys idx m _ a (b .back)));
-      inside = subst (λ (z : Cell). Inside p z) (sym d) (cell-inside p _ (a .sides .wide) (b .landed));
+      seen = subst (λ (z : Point). T (legal z)) (sym e) (above-legal p _ (a .sides) g (place-le (t .goals) p number place parent cost keys idx m _ a b));
+      inside = subst (λ (z : Cell). Inside p z) (sym d) (cell-inside p _ (a .sides .wide) c);
       known = omega (arith, a .counted);
       cheap = l;
     }
 
-pub leap-is : (t : Tables) (p : Plan) (from k : ℕ) (number place parent cost keys idx : List ℕ) (m : Mark) (above : Point) (node : Cell) → from < m .count → getD parent from 0 < m .count
-    → above ≡ placePoint p (getD place (getD parent from 0) 0) → node ≡ cellOf (p .w) (getD place from 0)
-    → expandAt t p from (p .settings .depth) above node k (view number place parent cost keys idx m) ≡ leapOf t p from k (view number place parent cost keys idx m)
-unfolding leapOf
-leap-is t p from k number place parent cost keys idx m above node h b e d =
-    rw (e, d, getD-take (m .count) parent from 0 h, getD-take (m .count) place (getD parent from 0) 0 b, getD-take (m .count) place from 0 h)
+pub leap-is : (t : Tables) (p : Plan) (from up k : ℕ) (number place parent cost keys idx : List ℕ) (m : Mark) (above : Point) (node : Cell) → from < m .count → up < m .count
+    → above ≡ placePoint p (getD place up 0) → node ≡ cellOf (p .w) (getD place from 0)
+    → expandAt t p from (p .settings .depth) above node k (view number place parent cost keys idx m) ≡ leapFrom t p up from k (view number place parent cost keys idx m)
+leap-is t p from up k number place parent cost keys idx m above node h b e d =
+    rw (e, d, getD-take (m .count) place up 0 b, getD-take (m .count) place from 0 h)
 
 -- over any side: an edge costs at most one jump across it for each level
 module _ (t : Tables) (p : Plan) (n side : ℕ) (aimed : Aimed (t .goals) p) (sides : Sides p) (wide : p .w ≤ side) (high : p .h ≤ side) (floor : n ≡ areaOf p + 1)

@@ -1,32 +1,19 @@
 -- Directions that a mask lacks are skipped: following them changes nothing. Assumes nothing.
-use mathlib.Core.Path.{_≡_, subst, sym, _∙_}
-use mathlib.Core.Bool.{false}
+use mathlib.Core.Path.{_≡_, _∙_}
 use mathlib.Core.List.{List}
-use Prim.Native.Nat.{ℕ, zero, suc, _+_, _-_, _%_, _<_, _≤_}
+use Prim.Native.Nat.{ℕ, zero, suc, _+_, _-_, _<_, _≤_}
 use native.Mathlib.Nat.{le-refl}
 use native.Mathlib.Omega.{arith}
 use Rattle.points.specs.declared.Point.{Point}
-use Rattle.masks.specs.Masks.{hasBit}
 use Rattle.goals.specs.declared.Plan.{Plan}
-use Rattle.nodes.proofs.Laws.{by-eq}
 use Rattle.offers.specs.declared.Mark.{Mark}
 use Rattle.offers.specs.Search.{State, Out, ok, each, view}
 use Rattle.offers.proofs.Loop.{each-on}
 use Rattle.offers.proofs.Rounds.{Rounds}
-use Rattle.jumps.specs.declared.Cell.{Cell}
-use Rattle.expansion.specs.Expand.{Tables, Clear, followWith}
+use Rattle.stops.specs.declared.Cell.{Cell}
+use Rattle.successors.specs.Successors.{Clear}
+use Rattle.expansion.specs.Expand.{Tables, followWith}
 use Rattle.expansion.proofs.Laws.{follow-off}
-
-pub clear-start : (mask from : ℕ) → from ≤ 8 → Clear mask from from
-clear-start mask from h = record { after = le-refl from; low = h; clear = λ k a b. absurd (omega arith) }
-
-pub clear-on : (mask from e : ℕ) → Clear mask from e → e < 8 → hasBit mask (e % 8) ≡ false → Clear mask from (e + 1)
-clear-on mask from e c h b =
-    record {
-      after = omega (arith, c .after);
-      low = omega arith;
-      clear = λ k x y. by-eq k e (λ z. subst (λ (i : ℕ). hasBit mask (i % 8) ≡ false) (sym z) b) (λ z. c .clear k x (omega arith));
-    }
 
 -- things that change nothing, j of them
 each-skip : (f : ℕ → State → Out) (s : State) (j d e : ℕ) → d + j ≡ e → e ≤ 8 → ((k : ℕ) → d ≤ k → k < e → ok s ≡ f k s) → each f (8 - e) e s ≡ each f (8 - d) d s

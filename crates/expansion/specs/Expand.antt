@@ -1,27 +1,28 @@
 -- What expanding a cell offers, by the remaining depth. Assumes nothing: these are definitions.
-use mathlib.Core.Path.{_≡_}
-use mathlib.Core.Bool.{Bool, false, not, cond}
+use mathlib.Core.Bool.{cond}
 use mathlib.Core.List.{List}
-use Prim.Native.Nat.{ℕ, zero, suc, _+_, _/_, _%_, _^_, _≤_, _<_}
-use lib.Dec.{T, eqb}
+use Prim.Native.Nat.{ℕ, zero, suc, _+_, _/_, _%_, _^_, _<_}
+use lib.Dec.{T}
 use lib.IntN.{ℤ}
 use lib.ListN.{length, getD}
 use Rattle.points.specs.Plane.{legal}
-use Rattle.points.specs.Compass.{headingOf}
+use Rattle.headings.specs.Headings.{headingOf}
 use Rattle.points.specs.declared.Point.{Point}
 use Rattle.points.specs.declared.Heading.{Heading}
 use Rattle.points.specs.declared.Heading.the-variants.{Toward, Refused}
 use Rattle.points.specs.declared.Refusal.the-variants.{Depth, Same}
 use Rattle.masks.specs.Masks.{hasBit, prunedIn}
 use Rattle.goals.specs.declared.Plan.{Plan}
-use Rattle.goals.specs.Goals.{mostSide, both}
+use Rattle.goals.specs.Goals.{mostSide}
 use Rattle.nodes.specs.Bound.{edgeOf}
 use Rattle.offers.specs.declared.Mark.{Mark}
-use Rattle.offers.specs.Search.{State, Out, ok, no, each, offerOf, guessAt, areaOf, placePoint, Lent, Expansion}
-use Rattle.jumps.specs.declared.Cell.{Cell}
-use Rattle.jumps.specs.declared.Jump.{Jump}
-use Rattle.jumps.specs.declared.Jump.the-variants.{At, Nothing}
-use Rattle.jumps.specs.Floor.{Sized, Marked, Inside, spotOf, numberOf, byteAt, stopsAt, jumpOf, priceOf}
+use Rattle.offers.specs.Search.{State, Out, ok, no, each, areaOf, placePoint, Lent, Expansion}
+use Rattle.stops.specs.declared.Cell.{Cell}
+use Rattle.stops.specs.declared.Jump.{Jump}
+use Rattle.stops.specs.declared.Jump.the-variants.{At, Nothing}
+use Rattle.stops.specs.Stops.{Sized, Marked, Inside, spotOf, byteAt, priceOf}
+use Rattle.jumps.specs.Jumps.{jumpOf}
+use Rattle.successors.specs.Successors.{againAt, giveOf}
 
 -- the tables of a grid, and the list of goals
 pub record Tables : Type 0 where
@@ -48,21 +49,6 @@ pub record Ready (t : Tables) (p : Plan) (from : ℕ) (above : Point) (node : Ce
   pub inside : Inside p node
   pub known : from < length number
   pub cheap : base + edgeOf mostSide depth < 2 ^ 40
-
--- a mask has none of the directions from `from` up to e
-pub record Clear (mask from e : ℕ) : Type 0 where
-  pub after : from ≤ e
-  pub low : e ≤ 8
-  pub clear : (k : ℕ) → from ≤ k → k < e → hasBit mask (k % 8) ≡ false
-
--- expanded again exactly if improved pruning is on, the direction is diagonal and the cell that it reached is neither goal nor forced
-unfoldable pub againAt : List ℕ → List ℤ → Plan → ℕ → Cell → Bool
-againAt forced goals p e c = both (p .settings .improved) (both (eqb (e % 2) 1) (not (stopsAt forced goals p e (c .x) (c .y))))
-
--- a cell offered at a cost
-unfoldable pub giveOf : List ℤ → Plan → ℕ → Cell → ℕ → State → Out
-giveOf goals p from c k s =
-    offerOf (p .settings .fringe) (guessAt goals p (numberOf (p .w) (c .x) (c .y))) from (numberOf (p .w) (c .x) (c .y)) k s
 
 -- what a jump found is expanded again or offered, its cost added; nothing ends the following of that direction
 abbrev pub reached : Tables → Plan → ℕ → (Cell → ℕ → State → Out) → ℕ → ℕ → State → Jump → Out
@@ -101,10 +87,14 @@ expandAt t p from depth = expandWith t p (followAt t p from depth)
 abbrev pub cellOf : ℕ → ℕ → Cell
 cellOf w c = record { x = c % w + 1; y = c / w + 1 }
 
--- the expansion of a node that has a parent
+-- the expansion of a node whose parent is the node `up`
+abbrev pub leapFrom : Tables → Plan → ℕ → Expansion
+leapFrom t p up i k s =
+    expandAt t p i (p .settings .depth) (placePoint p (getD (s .nodes .place) up 0)) (cellOf (p .w) (getD (s .nodes .place) i 0)) k s
+
+-- the expansion of a node that has a parent, the recorded one
 unfoldable pub leapOf : Tables → Plan → Expansion
-leapOf t p i k s =
-    expandAt t p i (p .settings .depth) (placePoint p (getD (s .nodes .place) (getD (s .nodes .parent) i 0) 0)) (cellOf (p .w) (getD (s .nodes .place) i 0)) k s
+leapOf t p i k s = leapFrom t p (getD (s .nodes .parent) i 0) i k s
 
 -- a node with a parent, on the grid
 pub record Backed (p : Plan) (place parent : List ℕ) (count from : ℕ) : Type 0 where

@@ -1,94 +1,27 @@
 // Expanding a cell and following one direction, which call each other: the remaining depth falls. Successors are offered to the search.
 use goals::Plan;
-use jumps::Cell;
-use jumps::Jump;
 use offers::Fate;
 use offers::Mark;
 use offers::Step;
 use points::Heading;
 use points::Point;
 use points::Refusal;
+use stops::Cell;
+use stops::Jump;
+use successors::Parent;
 ghost use mathlib.Core.Path.{_≡_};
-ghost use mathlib.Core.Bool.{true};
-ghost use Prim.Native.Nat.{_+_, _*_, _%_, _^_, _<_, _≤_};
+ghost use Prim.Native.Nat.{_+_, _*_, _^_, _<_, _≤_};
 ghost use lib.Dec.{T};
-ghost use lib.ListN.{length};
+ghost use lib.ListN.{getD};
 ghost use Rattle.points.specs.Plane.{legal};
-ghost use Rattle.masks.specs.Masks.{hasBit};
-ghost use Rattle.goals.specs.Goals.{mostSide, Aimed};
+ghost use Rattle.goals.specs.Goals.{mostSide};
 ghost use Rattle.nodes.specs.Bound.{edgeOf};
-ghost use Rattle.offers.specs.Search.{Lent, outOf, view};
-ghost use Rattle.jumps.specs.Floor.{Sized, Marked, Inside, jumpOf};
-ghost use Rattle.expansion.specs.Expand.{tables, Floors, Ready, Backed, Clear, againAt, giveOf, reached, deeperAt, expandAt, cellOf, leapOf};
+ghost use Rattle.offers.specs.Search.{Lent, outOf, view, areaOf};
+ghost use Rattle.jumps.specs.Jumps.{jumpOf};
+ghost use Rattle.expansion.specs.Expand.{tables, Floors, Ready, Backed, reached, deeperAt, expandAt, cellOf, leapFrom};
 ghost use Rattle.expansion.specs.Start.{yieldOf};
 
 mod start;
-
-// Whether a cell that was reached in direction e is expanded again.
-fn again(forced: &[u8], goals: &[i32], p: Plan, e: u8, c: Cell) -> bool
-    requires { ⌜ Sized (now forced) (p .w) (p .h) × (Aimed (now goals) p × (Marked p × Inside p c)) ⌝ }
-    ensures { λ r. ⌜ r ≡ againAt (now (forced .entry)) (now (goals .entry)) p e c ⌝ }
-{
-    if !p.settings.improved {
-        return false;
-    }
-    if e % 2 == 1 {
-        return !jumps::stops(forced, goals, p, e, c.x, c.y);
-    }
-    false
-}
-
-// Offers a cell.
-fn give(
-    number: &mut [u32],
-    place: &mut [u32],
-    parent: &mut [u32],
-    cost: &mut [u64],
-    keys: &mut [u64],
-    idx: &mut [u32],
-    goals: &[i32],
-    p: Plan,
-    m: Mark,
-    from: usize,
-    c: Cell,
-    k: u64,
-) -> Step
-    requires { ⌜ Lent (now goals) p (now number) (now place) (now parent) (now cost) (now keys) (now idx) m × (Inside p c × ((from < length (now number)) × (k < 2 ^ 40))) ⌝ }
-    ensures { λ r. ⌜ outOf r (now (number .exit)) (now (place .exit)) (now (parent .exit)) (now (cost .exit)) (now (keys .exit)) (now (idx .exit)) ≡ giveOf (now (goals .entry)) p from c k (view (now (number .entry)) (now (place .entry)) (now (parent .entry)) (now (cost .entry)) (now (keys .entry)) (now (idx .entry)) m) ⌝ }
-{
-    let cell = jumps::number(p.w, c.x, c.y);
-    let at = jumps::spot(c.x, c.y);
-    offers::offer(
-        number,
-        place,
-        parent,
-        cost,
-        keys,
-        idx,
-        goals,
-        p,
-        m,
-        from,
-        cell,
-        at,
-        k,
-    )
-}
-
-// The next direction that a mask has, of those at or after the given one; 8 where there is none.
-fn next_of(mask: u8, from: u8) -> u8
-    requires { ⌜ from ≤ 8 ⌝ }
-    ensures { λ r. ⌜ Clear mask from r × (r < 8 → hasBit mask (r % 8) ≡ true) ⌝ }
-{
-    let mut e = from;
-    while e < 8 {
-        if masks::bit(mask, e) {
-            return e;
-        }
-        e += 1;
-    }
-    e
-}
 
 // Expands an inside cell that is reached from the point above at the cost base: its pruned directions in number order. Refuses SAME.
 fn expand(
@@ -113,18 +46,18 @@ fn expand(
     requires { ⌜ Ready (tables (now blocked) (now neighbours) (now forced) (now goals)) p from above node base depth (now number) (now place) (now parent) (now cost) (now keys) (now idx) m ⌝ }
     ensures { λ r. ⌜ outOf r (now (number .exit)) (now (place .exit)) (now (parent .exit)) (now (cost .exit)) (now (keys .exit)) (now (idx .exit)) ≡ expandAt (tables (now (blocked .entry)) (now (neighbours .entry)) (now (forced .entry)) (now (goals .entry))) p from depth above node base (view (now (number .entry)) (now (place .entry)) (now (parent .entry)) (now (cost .entry)) (now (keys .entry)) (now (idx .entry)) m) ⌝ }
 {
-    let here = jumps::spot(node.x, node.y);
-    let Heading::Toward(travel) = points::direction_between(above, here) else {
+    let here = stops::spot(node.x, node.y);
+    let Heading::Toward(travel) = headings::direction_between(above, here) else {
         return Step {
             mark: m,
             fate: Fate::Refused(Refusal::Same(above)),
         };
     };
-    let around = jumps::byte(neighbours, p.w, node.x, node.y);
-    let mask = masks::pruned_now(p.settings.diagonal, travel.number, around);
-    let price = jumps::price_of(travel.number);
+    let around = stops::byte(neighbours, p.w, node.x, node.y);
+    let mask = masks::pruned_mask(p.settings.diagonal, travel.number, around);
+    let price = stops::price_of(travel.number);
     let mut n = m;
-    let mut e = next_of(mask, 0);
+    let mut e = successors::next_of(mask, 0);
     while e < 8 {
         let r = follow(
             blocked,
@@ -163,7 +96,7 @@ fn expand(
                 };
             }
         }
-        e = next_of(mask, e + 1);
+        e = successors::next_of(mask, e + 1);
     }
     Step {
         mark: n,
@@ -202,7 +135,7 @@ fn follow(
             fate: Fate::Done,
         };
     };
-    if again(forced, goals, p, e, c) {
+    if successors::again(forced, goals, p, e, c) {
         if depth == 0 {
             return Step {
                 mark: m,
@@ -229,7 +162,7 @@ fn follow(
             depth - 1,
         );
     }
-    give(
+    successors::give(
         number,
         place,
         parent,
@@ -256,7 +189,7 @@ fn cell_of(w: usize, cell: usize) -> Cell
     }
 }
 
-// Expands a node that has a parent.
+// Expands a node whose parent is the node `up`.
 fn leap(
     blocked: &[u8],
     neighbours: &[u8],
@@ -271,13 +204,13 @@ fn leap(
     p: Plan,
     m: Mark,
     from: usize,
+    up: usize,
     k: u64,
 ) -> Step
-    requires { ⌜ Lent (now goals) p (now number) (now place) (now parent) (now cost) (now keys) (now idx) m × (Floors (tables (now blocked) (now neighbours) (now forced) (now goals)) p × (T (legal (p .start)) × ((from < m .count) × (Backed p (now place) (now parent) (m .count) from × (k + edgeOf mostSide (p .settings .depth) < 2 ^ 40))))) ⌝ }
-    ensures { λ r. ⌜ outOf r (now (number .exit)) (now (place .exit)) (now (parent .exit)) (now (cost .exit)) (now (keys .exit)) (now (idx .exit)) ≡ leapOf (tables (now (blocked .entry)) (now (neighbours .entry)) (now (forced .entry)) (now (goals .entry))) p from k (view (now (number .entry)) (now (place .entry)) (now (parent .entry)) (now (cost .entry)) (now (keys .entry)) (now (idx .entry)) m) ⌝ }
+    requires { ⌜ Lent (now goals) p (now number) (now place) (now parent) (now cost) (now keys) (now idx) m × (Floors (tables (now blocked) (now neighbours) (now forced) (now goals)) p × (T (legal (p .start)) × ((from < m .count) × ((up < m .count) × ((getD (now place) from 0 < areaOf p) × (k + edgeOf mostSide (p .settings .depth) < 2 ^ 40)))))) ⌝ }
+    ensures { λ r. ⌜ outOf r (now (number .exit)) (now (place .exit)) (now (parent .exit)) (now (cost .exit)) (now (keys .exit)) (now (idx .exit)) ≡ leapFrom (tables (now (blocked .entry)) (now (neighbours .entry)) (now (forced .entry)) (now (goals .entry))) p up from k (view (now (number .entry)) (now (place .entry)) (now (parent .entry)) (now (cost .entry)) (now (keys .entry)) (now (idx .entry)) m) ⌝ }
 {
     let here = place[from] as usize;
-    let up = parent[from] as usize;
     let back = place[up] as usize;
     let depth = p.settings.depth;
     let above = offers::place_point(p, back);
@@ -303,7 +236,7 @@ fn leap(
     )
 }
 
-// Expands a popped node: the start yields its free neighbours, other cells yield jumps.
+// Expands a popped node: the start, which has no parent, yields its free neighbours; other cells yield jumps.
 pub fn expand_node(
     blocked: &[u8],
     neighbours: &[u8],
@@ -323,7 +256,7 @@ pub fn expand_node(
     requires { ⌜ Lent (now goals) p (now number) (now place) (now parent) (now cost) (now keys) (now idx) m × (Floors (tables (now blocked) (now neighbours) (now forced) (now goals)) p × (T (legal (p .start)) × ((from < m .count) × ((0 < from → Backed p (now place) (now parent) (m .count) from) × (k + edgeOf mostSide (p .settings .depth) < 2 ^ 40))))) ⌝ }
     ensures { λ r. ⌜ outOf r (now (number .exit)) (now (place .exit)) (now (parent .exit)) (now (cost .exit)) (now (keys .exit)) (now (idx .exit)) ≡ yieldOf (tables (now (blocked .entry)) (now (neighbours .entry)) (now (forced .entry)) (now (goals .entry))) p from k (view (now (number .entry)) (now (place .entry)) (now (parent .entry)) (now (cost .entry)) (now (keys .entry)) (now (idx .entry)) m) ⌝ }
 {
-    if from == 0 {
+    let Parent::Node(up) = successors::parent_of(parent, from) else {
         return start::spread(
             blocked,
             goals,
@@ -338,7 +271,7 @@ pub fn expand_node(
             from,
             k,
         );
-    }
+    };
     leap(
         blocked,
         neighbours,
@@ -353,6 +286,7 @@ pub fn expand_node(
         p,
         m,
         from,
+        up,
         k,
     )
 }

@@ -14,11 +14,12 @@ use Rattle.offers.specs.declared.Mark.{Mark}
 use Rattle.offers.specs.Search as S
 use Rattle.offers.specs.Search.{State, view, found, refused, Ended, areaOf}
 use Rattle.offers.proofs.Laws.{area-is}
-use Rattle.jumps.specs.Floor.{Sized}
+use Rattle.stops.specs.Stops.{Sized}
 use Rattle.expansion.specs.Expand.{Tables, Floors}
 use Rattle.search.specs.declared.Reply.{Reply}
 use Rattle.search.specs.declared.Reply.the-variants.{Found, Refused}
-use Rattle.search.specs.Loop.{Legal, Room, edgeIn, searchFor, replyOf}
+use Rattle.rooms.specs.Rooms.{Room}
+use Rattle.search.specs.Loop.{Legal, edgeIn, searchFor, replyOf}
 use Rattle.search.proofs.Laws.{edges-low, search-ended}
 use Rattle.trails.specs.declared.Wrote.{Wrote}
 use Rattle.trails.specs.Trail.{Climbs, Located, Tall, wroteOf, leftIn}

@@ -2,10 +2,10 @@
 use mathlib.Core.Path.{_≡_, refl, ap, sym, _∙_, subst}
 use mathlib.Core.Bool.{Bool, true, false, cond, _&&_}
 use mathlib.Core.List.{List, [], _∷_}
-use Prim.Native.Nat.{ℕ, _+_, _*_, _/_, _%_, _<_, _≤_}
+use Prim.Native.Nat.{ℕ, _+_, _*_, _/_, _%_, _≤_}
 use native.Mathlib.Nat.{le-refl}
 use native.Mathlib.Omega.{arith}
-use borrow.Author.Tests.{ltb-true, leb-true, eqb-false, ltb-false}
+use borrow.Author.Tests.{ltb-true, leb-true, eqb-false}
 use lib.Dec.{T, eqb, ltb, leb}
 use lib.IntN.{ℤ}
 use mir.Syntax.{w32}
@@ -21,7 +21,7 @@ use Rattle.costs.specs.declared.Settings.{Settings}
 use Rattle.costs.specs.Limits.{mostDepth, mostPops, mostFringe, settingsOk}
 use Rattle.costs.specs.Scale.{inBounds}
 use Rattle.goals.specs.declared.Goal.{Goal}
-use Rattle.goals.specs.declared.Goal.the-variants.{Exact, Near, Several}
+use Rattle.goals.specs.declared.Goal.the-variants.{Several}
 use Rattle.goals.specs.declared.Listed.{Listed}
 use Rattle.goals.specs.declared.Listed.the-variants as Listed
 use Rattle.goals.specs.declared.Misplaced.the-variants.{At, Nowhere}
@@ -30,13 +30,14 @@ use Rattle.goals.specs.Goals.{mostGoals, pickListed, countOf, badOf, Placed}
 use Rattle.goals.proofs.Walks.{legals}
 use Rattle.offers.specs.Search.{Reply, refused}
 use Rattle.search.specs.Loop.{Legal}
-use Rattle.components.proofs.State.{and-true}
-use Rattle.cells.specs.Cells.{placeOf, cellOf}
+use Rattle.components.proofs.Loops.{and-true}
+use Rattle.cells.specs.Cells.{placeOf, cellOf, Sides}
 use Rattle.cells.proofs.Cell.{cell-lt}
-use Rattle.tables.specs.Tables.{Sides}
+use Rattle.cells.specs.Cells.{Sides}
+use Rattle.plans.specs.declared.Lengths.{Lengths}
+use Rattle.plans.specs.Plans.{readyOf, barredOf, planOf, kindOf}
 use Rattle.finder.specs.declared.Answer.{Answer}
-use Rattle.finder.specs.declared.Lengths.{Lengths}
-use Rattle.finder.specs.Find.{Ground, Covered, Roomy, lengthsOf, early, answerOf, outAfter, readyOf, barredOf, planOf, startedIn, pairOf, kindOf, singlePlan, singleOf, severalPlan, afterCount, afterGoals, severalOf}
+use Rattle.finder.specs.Find.{Ground, Covered, Roomy, lengthsOf, early, answerOf, outAfter, startedIn, pairOf, singlePlan, singleOf, severalPlan, severalOf}
 
 -- a point's cell is a place
 pub cell-of-le : (w h : ℕ) (q : Point) → cellOf w h q ≤ w * h

@@ -1,9 +1,8 @@
 -- What the searches answer and write: the refusals in their order, the search, its waypoints.
 -- Assumes nothing.
-use mathlib.Core.Bool.{Bool, cond, not, _&&_}
+use mathlib.Core.Bool.{Bool, cond}
 use mathlib.Core.List.{List, [], _∷_}
 use Prim.Native.Nat.{ℕ, _+_, _*_, _/_, _≤_}
-use lib.Dec.{leb}
 use lib.IntN.{ℤ}
 use lib.ListN.{length, getD, take}
 use Rattle.points.specs.Plane.{legal}
@@ -11,9 +10,7 @@ use Rattle.points.specs.declared.Point.{Point}
 use Rattle.points.specs.declared.Refusal.{Refusal}
 use Rattle.points.specs.declared.Refusal.the-variants as refusal
 use Rattle.costs.specs.declared.Settings.{Settings}
-use Rattle.costs.specs.Limits.{settingsOk}
-use Rattle.goals.specs.declared.Goal.{Goal}
-use Rattle.goals.specs.declared.Goal.the-variants.{Exact, Near, Several}
+use Rattle.goals.specs.declared.Goal.the-variants.{Several}
 use Rattle.goals.specs.declared.Listed.{Listed}
 use Rattle.goals.specs.declared.Listed.the-variants as Listed
 use Rattle.goals.specs.declared.Misplaced.{Misplaced}
@@ -27,9 +24,8 @@ use Rattle.trails.specs.declared.Wrote.{Wrote}
 use Rattle.trails.specs.declared.Wrote.the-variants.{Written, Room}
 use Rattle.trails.specs.Trail.{routeOf, wroteOf, leftIn}
 use Rattle.cells.specs.Cells.{cellOf}
-use Rattle.jumps.specs.Floor.{targetIn}
-use Rattle.questions.specs.Questions.{reachableOf, neighboursUnreachableOf}
-use Rattle.finder.specs.declared.Lengths.{Lengths}
+use Rattle.plans.specs.declared.Lengths.{Lengths}
+use Rattle.plans.specs.Plans.{readyOf, barredOf, planOf, kindOf}
 use Rattle.finder.specs.declared.Outcome.{Outcome}
 use Rattle.finder.specs.declared.Outcome.the-variants.{Found, Refused}
 use Rattle.finder.specs.declared.Answer.{Answer}
@@ -59,7 +55,7 @@ outAfter out p (refused w n) = out
 abbrev pub early : Refusal → Answer
 early w = record { pops = 0; outcome = Refused w }
 
--- ---- the tests before a search
+-- ---- the searches
 
 -- what a search reads of a grid: its sides and the tables of its cells
 pub record Ground : Type 0 where
@@ -81,29 +77,6 @@ abbrev pub lengthsOf : List ℕ → List ℕ → List ℕ → List ℕ → List 
 lengthsOf number place parent cost keys idx =
     record { number = length number; place = length place; parent = length parent; cost = length cost; keys = length keys; idx = length idx }
 
--- SETTING: the factor and the limits in range, and working room for the cells and one more and for the fringe limit
-unfoldable pub readyOf : Settings → Lengths → ℕ → Bool
-readyOf s l places =
-    settingsOk s
-    && (leb places (l .number)
-    && (leb places (l .place)
-    && (leb places (l .parent)
-    && (leb places (l .cost)
-    && (leb (s .fringe) (l .keys)
-    && leb (s .fringe) (l .idx))))))
-
--- NO_ROUTE: exact search asks `unreachable`, approximate asks `neighbours_unreachable`
-unfoldable pub barredOf : ℕ → ℕ → List ℕ → Bool → Bool → Point → Point → Bool
-barredOf w h links diagonal approximate start goal =
-    cond approximate
-    (neighboursUnreachableOf w h diagonal links (cellOf w h start) (cellOf w h goal))
-    (not (reachableOf (w * h) links (cellOf w h start) (cellOf w h goal)))
-
--- ---- the searches
-
-abbrev pub planOf : ℕ → ℕ → Settings → Goal → Point → Plan
-planOf w h s goal start = record { start = start; goal = goal; w = w; h = h; target = targetIn w h goal; settings = s }
-
 -- the search of a plan from its start's place, over the first places of the tables
 unfoldable pub startedOf : List ℕ → List ℕ → List ℕ → List ℤ → Plan → Reply
 startedOf blocked neighbours forced goals p =
@@ -115,10 +88,6 @@ startedIn g goals p = startedOf (g .blocked) (g .neighbours) (g .forced) goals p
 -- a single goal as a list of pairs
 abbrev pub pairOf : Point → List ℤ
 pairOf q = q .x ∷ q .y ∷ []
-
--- its kind: any point whose unscaled distance is at most 99, or the point itself
-abbrev pub kindOf : Bool → Point → Goal
-kindOf approximate goal = cond approximate (Near goal) (Exact goal)
 
 abbrev pub singlePlan : ℕ → ℕ → Settings → Bool → Point → Point → Plan
 singlePlan w h s approximate start goal = planOf w h s (kindOf approximate goal) start

@@ -4,6 +4,7 @@ use goals::Goal;
 use goals::Listed;
 use goals::Misplaced;
 use goals::Plan;
+use plans::Lengths;
 use points::Point;
 use points::Refusal;
 use search::Reply;
@@ -12,9 +13,9 @@ ghost use mathlib.Core.Path.{_≡_};
 ghost use Prim.Native.Nat.{_+_, _*_};
 ghost use lib.ListN.{length};
 ghost use Rattle.components.specs.Components.{Forest};
-ghost use Rattle.tables.specs.Tables.{Sides};
+ghost use Rattle.cells.specs.Cells.{Sides};
 ghost use Rattle.search.specs.Loop.{Legal};
-ghost use Rattle.finder.specs.Find.{Covered, Roomy, ground, lengthsOf, early, answerOf, outAfter, readyOf, barredOf, startedOf, kindOf, planOf, singlePlan, singleOf, severalPlan, severalOf};
+ghost use Rattle.finder.specs.Find.{Covered, Roomy, ground, lengthsOf, early, answerOf, outAfter, startedOf, singlePlan, singleOf, severalPlan, severalOf};
 
 // The count of waypoints and the cost at the goal's pop, or a refusal.
 pub enum Outcome {
@@ -26,16 +27,6 @@ pub enum Outcome {
 pub struct Answer {
     pub pops: usize,
     pub outcome: Outcome,
-}
-
-// The lengths of the lent working room.
-pub struct Lengths {
-    pub number: usize,
-    pub place: usize,
-    pub parent: usize,
-    pub cost: usize,
-    pub keys: usize,
-    pub idx: usize,
 }
 
 // A refusal before searching.
@@ -110,79 +101,6 @@ fn find(
     }
 }
 
-// Whether the settings are in range, and the working room is long enough for them and for so many places.
-fn ready(s: Settings, l: Lengths, places: usize) -> bool
-    ensures { λ r. ⌜ r ≡ readyOf s l places ⌝ }
-{
-    if !s.legal() {
-        return false;
-    }
-    if l.number < places {
-        return false;
-    }
-    if l.place < places {
-        return false;
-    }
-    if l.parent < places {
-        return false;
-    }
-    if l.cost < places {
-        return false;
-    }
-    if l.keys < s.fringe {
-        return false;
-    }
-    s.fringe <= l.idx
-}
-
-// Whether the component test of a single-goal search says no.
-fn barred(
-    links: &[u16],
-    ranks: &[u8],
-    w: usize,
-    h: usize,
-    diagonal: bool,
-    approximate: bool,
-    start: Point,
-    goal: Point,
-) -> bool
-    requires { ⌜ Sides w h × Forest 200 (w * h) (now links) (now ranks) ⌝ }
-    ensures { λ r. ⌜ r ≡ barredOf w h (now (links .entry)) diagonal approximate start goal ⌝ }
-{
-    let a = cells::cell_of(w, h, start);
-    let c = cells::cell_of(w, h, goal);
-    if approximate {
-        return questions::neighbours_unreachable(w, h, diagonal, links, ranks, a, c);
-    }
-    questions::unreachable(links, ranks, w * h, a, c)
-}
-
-// The kind of a single goal.
-fn kind_of(approximate: bool, goal: Point) -> Goal
-    ensures { λ r. ⌜ r ≡ kindOf approximate goal ⌝ }
-{
-    if approximate {
-        return Goal::Near(goal);
-    }
-    Goal::Exact(goal)
-}
-
-// What stays the same in a search.
-fn plan(w: usize, h: usize, s: Settings, goal: Goal, start: Point) -> Plan
-    requires { ⌜ Sides w h ⌝ }
-    ensures { λ r. ⌜ r ≡ planOf w h s goal start ⌝ }
-{
-    let target = jumps::goal_cell(w, h, goal);
-    Plan {
-        start,
-        goal,
-        w,
-        h,
-        target,
-        settings: s,
-    }
-}
-
 // The search for one goal, exact or approximate. Refuses SETTING, POINT, NO_ROUTE, what the search meets, ROOM.
 pub fn single_goal(
     blocked: &[u8],
@@ -215,7 +133,7 @@ pub fn single_goal(
         keys: keys.len(),
         idx: idx.len(),
     };
-    if !ready(s, l, w * h + 1) {
+    if !plans::ready(s, l, w * h + 1) {
         return refused(Refusal::Setting);
     }
     if !start.legal() {
@@ -224,11 +142,11 @@ pub fn single_goal(
     if !goal.legal() {
         return refused(Refusal::BadPoint(goal));
     }
-    if barred(links, ranks, w, h, s.diagonal, approximate, start, goal) {
+    if plans::barred(links, ranks, w, h, s.diagonal, approximate, start, goal) {
         return refused(Refusal::NoRoute);
     }
-    let kind = kind_of(approximate, goal);
-    let p = plan(w, h, s, kind, start);
+    let kind = plans::kind_of(approximate, goal);
+    let p = plans::plan(w, h, s, kind, start);
     let goals = [goal.x, goal.y];
     find(
         blocked,
@@ -275,7 +193,7 @@ pub fn multiple_goals(
         keys: keys.len(),
         idx: idx.len(),
     };
-    if !ready(s, l, w * h + 1) {
+    if !plans::ready(s, l, w * h + 1) {
         return refused(Refusal::Setting);
     }
     let c = goals::count_goals(goals);
@@ -289,7 +207,7 @@ pub fn multiple_goals(
     if let Misplaced::At(bad) = q {
         return refused(Refusal::BadPoint(bad));
     }
-    let p = plan(w, h, s, Goal::Several(n), start);
+    let p = plans::plan(w, h, s, Goal::Several(n), start);
     find(
         blocked,
         neighbours,

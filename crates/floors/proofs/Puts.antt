@@ -1,25 +1,21 @@
--- A legal grid's map: its sides and points are in range, so that what is written fits and is read back as the same map. Assumes nothing.
+-- A legal grid's map: its sides and points are in range, so that what is written fits. Assumes nothing.
 use mathlib.Core.Path.{_≡_, sym, subst}
 use mathlib.Core.Bool.{Bool, true, false, _&&_}
 use Prim.Native.Nat.{ℕ, _*_, _≤_}
 use native.Mathlib.Nat.{mul-comm}
 use native.Mathlib.Omega.{arith}
-use borrow.Author.Tests.{le-leb, leb-true}
 use lib.Dec.{T, leb}
 use lib.ListN.{length}
 use mir.Facts.{and-yes}
 use Rattle.points.specs.Plane.{legal}
 use Rattle.points.specs.declared.Point.{Point}
 use Rattle.cells.specs.Cells.{mostSide, sizedOf}
-use Rattle.components.specs.Components.{stateOk}
+use Rattle.states.specs.States.{stateOk}
 use Rattle.grid.specs.Grids.{legalOf}
 use Rattle.grid.specs.declared.Grid.{Grid}
 use Rattle.grid.proofs.Tests.{of-legal}
-use Rattle.maps.specs.Maps.{sideOk, mapOf}
-use Rattle.maps.specs.Shown.{Fair}
-use Rattle.maps.specs.declared.Reading.the-variants.{Map}
-use Rattle.maps.proofs.Again.{map-again}
-use Rattle.floors.specs.Floors.{headerOf, shownOf}
+use Rattle.maps.specs.Maps.{Fair, sideOk}
+use Rattle.floors.specs.Floors.{headerOf}
 
 yes : (b : Bool) → b ≡ true → T b
 yes b e = subst T (sym e) tt
@@ -46,9 +42,3 @@ fair g diagonal start goal l s t =
 -- a legal grid has a byte for each cell
 pub held : (g : Grid) → legalOf g ≡ true → mostSide * mostSide ≤ length (g .blocked) → g .height * g .width ≤ length (g .blocked)
 held g l room = omega (arith, of-legal g l .cells, mul-comm (g .height) (g .width))
-
--- LAW: what is written of a grid is read back as the same map
-pub read-back : (g : Grid) (diagonal : Bool) (start goal : Point) → legalOf g ≡ true → legal start ≡ true → legal goal ≡ true → mostSide * mostSide ≤ length (g .blocked)
-    → mapOf (shownOf g diagonal start goal) ≡ Map (headerOf g diagonal start goal)
-unfolding shownOf
-read-back g diagonal start goal l s t room = map-again (headerOf g diagonal start goal) (g .blocked) (g .blocked) (fair g diagonal start goal l s t) (held g l room) .0

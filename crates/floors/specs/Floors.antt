@@ -1,29 +1,27 @@
 -- A map text as a grid by value, and the route check. Assumes nothing: these are definitions.
-use mathlib.Core.Bool.{Bool, true, false, cond}
+use mathlib.Core.Bool.{Bool, true, cond}
 use mathlib.Core.List.{List}
-use Prim.Native.Nat.{ℕ, _*_, _%_}
-use lib.Dec.{eqb, ltb}
+use Prim.Native.Nat.{ℕ, _*_}
+use lib.Dec.{ltb}
 use lib.Seq.{sets}
 use lib.IntN.{ℤ, pos}
 use lib.ListN.{length, getD}
 use Rattle.points.specs.declared.Point.{Point}
-use Rattle.points.specs.declared.Refusal.the-variants.{State, Room, Map as MapBroken, List as ListBroken, BadPoint}
+use Rattle.points.specs.declared.Refusal.the-variants.{State, Room, Map as MapBroken, BadPoint}
 use Rattle.masks.specs.Masks.{forcedOf}
-use Rattle.cells.specs.Cells.{maskAt, fillTo}
+use Rattle.fills.specs.Fills.{maskAt, fillTo}
 use Rattle.grid.specs.Grids.{legalOf, zeros, newGrid}
 use Rattle.grid.specs.declared.Grid.{Grid}
 use Rattle.grid.specs.declared.Outcome.the-variants.{Done, Refused as RefusedOutcome}
 use Rattle.grid.specs.declared.Verdict.{Verdict}
-use Rattle.grid.specs.declared.Verdict.the-variants.{Yes, No, Refused}
+use Rattle.grid.specs.declared.Verdict.the-variants.{Refused}
 use Rattle.points.specs.Plane.{legal}
 use Rattle.maps.specs.Maps.{mostText, mapOf, cellsInto}
-use Rattle.maps.specs.Shown.{mapText}
+use Rattle.map_printing.specs.Shown.{mapText}
 use Rattle.maps.specs.declared.Header.{Header}
 use Rattle.maps.specs.declared.Reading.{Reading}
 use Rattle.maps.specs.declared.Reading.the-variants.{Map, Bad}
-use Rattle.paths.specs.Walks.{firstBad, clearOf}
-use Rattle.paths.specs.declared.Bad.{Bad as BadPoints}
-use Rattle.paths.specs.declared.Bad.the-variants.{At, Nowhere}
+use Rattle.checks.specs.Checks.{checkIn}
 use Rattle.floors.specs.declared.MapRead.{MapRead}
 use Rattle.floors.specs.declared.Put.{Put}
 use Rattle.floors.specs.declared.Put.the-variants.{Bytes, Refused as RefusedPut}
@@ -55,18 +53,6 @@ readAs blocked (Bad n) = refusedMap n
 -- the map of a text, its cells in a table of free ones
 unfoldable pub readOf : List ℕ → MapRead
 readOf t = readAs (cellsInto t zeros) (mapOf t)
-
--- clear exactly if every waypoint after the first is inside and free
-abbrev pub judged : BadPoints → Bool → Verdict
-judged (At p) clear = Refused (BadPoint p)
-judged Nowhere clear = cond clear Yes No
-
--- LIST, POINT, over the cells of a grid
-unfoldable pub checkIn : ℕ → ℕ → List ℕ → List ℤ → Verdict
-checkIn w h blocked l =
-    cond (eqb (length l) 0) (Refused ListBroken)
-    (cond (eqb (length l % 2) 1) (Refused ListBroken)
-    (judged (firstBad l) (clearOf w h blocked l)))
 
 -- STATE, LIST, POINT
 unfoldable pub checkOf : Grid → List ℤ → Verdict

@@ -1,16 +1,13 @@
 // Map texts as grids by value, and the route check on a grid by value.
 ghost use mathlib.Core.Path.{_≡_};
-ghost use Prim.Native.Nat.{_*_, _≤_};
 ghost use lib.ListN.{length};
-ghost use Rattle.cells.specs.Cells.{mostSide};
-ghost use Rattle.tables.specs.Tables.{Sides};
-ghost use Rattle.floors.specs.Floors.{floorGrid, refusedMap, readOf, checkIn, checkOf, shownOf, putOf, putInto};
+ghost use Rattle.cells.specs.Cells.{Sides};
+ghost use Rattle.floors.specs.Floors.{floorGrid, refusedMap, readOf, checkOf, shownOf, putOf, putInto};
 use grid::Grid;
 use grid::Outcome;
 use grid::Verdict;
 use maps::Header;
 use maps::Reading;
-use paths::Bad;
 use points::Point;
 use points::Refusal;
 
@@ -37,11 +34,11 @@ fn floor(w: usize, h: usize, blocked: [u8; 4096]) -> Grid
 {
     let n = w * h;
     let mut neighbours = [0u8; 4096];
-    cells::fill_masks(w, h, &blocked, &mut neighbours, n);
+    fills::fill_masks(w, h, &blocked, &mut neighbours, n);
     let mut forced = [0u8; 4096];
-    cells::fill_forced(&neighbours, &mut forced, n);
+    fills::fill_forced(&neighbours, &mut forced, n);
     let mut parent = [0u16; 4096];
-    cells::fill_ident(&mut parent, n);
+    fills::fill_ident(&mut parent, n);
     let rank = [0u8; 4096];
     Grid {
         width: w,
@@ -95,27 +92,6 @@ pub fn read_map(text: &[u8]) -> MapRead
     }
 }
 
-// Whether every waypoint after the first is inside and free, on cells whose sides are known. Refuses LIST, POINT.
-pub fn check_list(blocked: &[u8], w: usize, h: usize, list: &[i32]) -> Verdict
-    requires { ⌜ (w ≤ mostSide) × (h ≤ mostSide) × (w * h ≤ length (now blocked)) ⌝ }
-    ensures { λ r. ⌜ r ≡ checkIn w h (now (blocked .entry)) (now (list .entry)) ⌝ }
-{
-    if list.len() == 0 {
-        return Verdict::Refused(Refusal::List);
-    }
-    if list.len() % 2 == 1 {
-        return Verdict::Refused(Refusal::List);
-    }
-    let bad = paths::bad_point(list);
-    if let Bad::At(p) = bad {
-        return Verdict::Refused(Refusal::BadPoint(p));
-    }
-    if paths::clear(blocked, w, h, list) {
-        return Verdict::Yes;
-    }
-    Verdict::No
-}
-
 // The route check on a grid. Refuses STATE, LIST, POINT.
 pub fn check_route(g: Grid, list: &[i32]) -> Verdict
     ensures { λ r. ⌜ r ≡ checkOf g (now (list .entry)) ⌝ }
@@ -124,7 +100,7 @@ pub fn check_route(g: Grid, list: &[i32]) -> Verdict
         return Verdict::Refused(Refusal::State);
     }
     let blocked = g.blocked;
-    check_list(&blocked, g.width, g.height, list)
+    checks::check_list(&blocked, g.width, g.height, list)
 }
 
 // Writes a grid's cells with an order to route as a map text; the rest of the room is kept.
@@ -154,5 +130,5 @@ pub fn write_map(buf: &mut [u8], g: Grid, diagonal: bool, start: Point, goal: Po
         goal: goal,
     };
     let blocked = g.blocked;
-    Put::Bytes(maps::write::put_map(buf, m, &blocked))
+    Put::Bytes(map_printing::put_map(buf, m, &blocked))
 }

@@ -1,4 +1,4 @@
--- The laws of a push and of a pop: the length, the entries, the order, and that no entry is to be popped before the one that is. Assumes nothing.
+-- The laws of a push and of a pop: the length, the entries, the order, and that the first entry is the largest. Assumes nothing.
 use mathlib.Core.Path.{_≡_, refl, ap, sym, _∙_, subst}
 use mathlib.Core.List.{List, [], _∷_, _++_}
 use Prim.Native.Nat.{ℕ, zero, suc, _+_, _-_, _*_, _<_, _≤_}
@@ -7,11 +7,11 @@ use native.Mathlib.Nat.{le-refl}
 use borrow.Author.Tests.{le-leb, lt-leb}
 use lib.ListN.{length, set, take, length-set, length-append, List·getD-append}
 use lib.Seq.{getD-set-same, getD-set-other, getD-take, length-take-le}
-use Rattle.fringe.specs.declared.Entry.{Entry}
-use Rattle.fringe.specs.Fringe.{entry, at, parent, up, down, push, top, rest}
-use Rattle.fringe.specs.Order.{Each, Ordered, Packed, Before}
-use Rattle.fringe.proofs.Order.{before-key}
-use Rattle.fringe.proofs.Turns.{by-order, by-eq, up-ind, down-ind, Best}
+use Rattle.sifts.specs.declared.Entry.{Entry}
+use Rattle.sifts.specs.Sifts.{entry, at, parent, up, down}
+use Rattle.fringe.specs.Fringe.{push, top, rest}
+use Rattle.fringe.specs.Order.{Each, Ordered}
+use Rattle.sifts.proofs.Turns.{by-order, by-eq, up-ind, down-ind, Best}
 
 -- ---- a place of a list
 
@@ -282,7 +282,6 @@ ordered-rest l w =
       grand = λ i pos a q pp. absurd (omega arith);
     })))
 
--- the first entry of an ordered list is the largest
 first-most : (l : List Entry) → Ordered l → (f i : ℕ) → i ≤ f → i < length l → at l i .key ≤ at l 0 .key
 first-most l w zero i b h = let z : i ≡ 0 = omega arith in omega (arith, key-at l i 0 z)
 first-most l w (suc f) i b h =
@@ -294,10 +293,10 @@ first-most l w (suc f) i b h =
     let ih = first-most l w f (parent i) lo lm in
     omega (arith, w i pos h))
 
--- no entry is to be popped before the one that is
-pub top-first : (l : List Entry) → Ordered l → 0 < length l → Each Packed l → Each (λ x. Before x (top l) → ⊥) l
+-- a pop takes the largest key
+pub top-most : (l : List Entry) → Ordered l → Each (λ x. x .key ≤ top l .key) l
 unfolding top
-top-first l w pos k i h b = omega (arith, first-most l w i i (le-refl i) h, before-key (at l i) (at l 0) (k i h) (k 0 pos) b)
+top-most l w i h = first-most l w i i (le-refl i) h
 
 pub ordered-nil : Ordered []
 ordered-nil i pos h = absurd (omega arith)

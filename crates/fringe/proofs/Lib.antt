@@ -1,6 +1,3 @@
 -- The laws of the fringe.
-pub mod Order
 pub mod Laws
-mod Lists
 mod Trim
-mod Turns

@@ -7,9 +7,10 @@ use native.Mathlib.Numerals.{add-one}
 use borrow.Author.Tests.{le-leb, lt-leb}
 use lib.ListN.{length, set, take}
 use lib.Seq.{take-set-lt, getD-take, set-set, getD-set-other, take-suc-set, length-take-le, take-take}
-use Rattle.fringe.specs.declared.Entry.{Entry}
-use Rattle.fringe.specs.Fringe.{entry, at, parent, up, down, largest, push, top, rest}
-use Rattle.fringe.proofs.Turns.{by-order, up-root, up-stop, up-turn, down-two, down-one, down-leaf}
+use Rattle.sifts.specs.declared.Entry.{Entry}
+use Rattle.sifts.specs.Sifts.{entry, at, parent, up, down, largest}
+use Rattle.fringe.specs.Fringe.{push, top, rest}
+use Rattle.sifts.proofs.Turns.{by-order, up-root, up-stop, up-turn, down-two, down-one, down-leaf}
 
 -- what stands in the hole is not looked at
 pub up-blank : (f : ℕ) (l : List Entry) (p : ℕ) (x e : Entry) → p ≤ f → up f (set l p x) p e ≡ up f l p e

@@ -19,7 +19,7 @@ pub enum Goal {
     Several(usize),
 }
 
-// What stays the same in one search: the start, the goal, the sides, the number of the goal's cell (jumps::goal_cell) and the settings. In this order no copy splits what is read after it.
+// What stays the same in one search: the start, the goal, the sides, the number of the goal's cell (stops::goal_cell) and the settings. In this order no copy splits what is read after it.
 pub struct Plan {
     pub start: Point,
     pub goal: Goal,

@@ -9,12 +9,12 @@ use borrow.Author.Tests.{lt-ltb, le-ltb, ltb-true}
 use Rattle.points.specs.Plane.{legal}
 use Rattle.points.specs.declared.Point.{Point}
 use Rattle.points.specs.declared.Refusal.the-variants.{State, BadPoint}
-use Rattle.components.specs.Components.{Forest, stateOk}
-use Rattle.components.proofs.State.{and-true, state-of, of-state}
-use Rattle.cells.specs.Cells.{mostSide, sizedOf}
-use Rattle.cells.proofs.Cell.{area}
-use Rattle.tables.specs.Tables.{Sides}
-use Rattle.tables.proofs.Joins.{sides-of}
+use Rattle.components.specs.Components.{Forest}
+use Rattle.states.specs.States.{stateOk}
+use Rattle.components.proofs.Loops.{and-true}
+use Rattle.states.proofs.State.{state-of, of-state}
+use Rattle.cells.specs.Cells.{mostSide, sizedOf, Sides}
+use Rattle.cells.proofs.Cell.{area, sides-of}
 use Rattle.grid.specs.declared.Grid.{Grid}
 use Rattle.grid.specs.declared.Outcome.the-variants.{Done, Refused}
 use Rattle.grid.specs.Grids.{legalOf, cellIn, statedOf, locatedOf, askedOf}

@@ -7,7 +7,7 @@ use lib.ListN.{replicate}
 use Rattle.points.specs.Plane.{legal}
 use Rattle.points.specs.declared.Point.{Point}
 use Rattle.points.specs.declared.Refusal.the-variants.{Size, State, BadPoint}
-use Rattle.components.specs.Components.{stateOk}
+use Rattle.states.specs.States.{stateOk}
 use Rattle.cells.specs.Cells.{sizedOf, placeOf, cellOf}
 use Rattle.tables.specs.Tables.{Tables, newOf, editOf, rebuildOf, updateOf}
 use Rattle.grid.specs.declared.Grid.{Grid}

@@ -1,6 +1,6 @@
 // The public calls on a grid by value. Every grid value is legal input: each call tests what it rests on, and a refusal leaves the grid as it came.
 ghost use mathlib.Core.Path.{_≡_};
-ghost use Rattle.tables.specs.Tables.{Sides};
+ghost use Rattle.cells.specs.Cells.{Sides};
 ghost use Rattle.grid.specs.Grids.{legalOf, statedOf, locatedOf, askedOf, newGrid, rebuildGrid, newOutcome, setOutcome, rebuildOutcome, updateOutcome};
 ghost use Rattle.grid.specs.Questions.{verdictOf, componentAt, neighbourMaskAt, forcedMaskAt, prunedMaskAt, reachableFrom, unreachableFrom, neighboursReachableFrom, neighboursUnreachableFrom};
 use points::Direction;
@@ -57,7 +57,7 @@ pub fn legal(g: Grid) -> bool
     }
     let parent = g.parent;
     let rank = g.rank;
-    components::state_ok(&parent, &rank, w * h)
+    states::state_ok(&parent, &rank, w * h)
 }
 
 // STATE.

@@ -5,13 +5,15 @@ use mathlib.Core.List.{List}
 use Prim.Native.Nat.{ℕ, zero, suc, _+_, _-_, _*_, _%_, _≤_, _<_}
 use native.Mathlib.Omega.{arith}
 use lib.IntN.{ℤ}
-use Rattle.points.specs.Compass.{offX, offY}
+use Rattle.directions.specs.Offsets.{offX, offY}
 use Rattle.goals.specs.declared.Plan.{Plan}
-use Rattle.jumps.specs.Floor.{Within, Inside, freeAt, haltsAt, found, run, priceOf, jumpOf}
-use Rattle.jumps.specs.declared.Cell.{Cell}
-use Rattle.jumps.specs.declared.Jump.the-variants.{At}
-use Rattle.jumps.proofs.Laws.{free-inside}
-use Rattle.jumps.proofs.Going.{Moves, moves, left, falls, left-le}
+use Rattle.stops.specs.Stops.{Within, Inside, freeAt, priceOf}
+use Rattle.looks.specs.Looks.{found, run}
+use Rattle.jumps.specs.Jumps.{haltsAt, jumpOf}
+use Rattle.stops.specs.declared.Cell.{Cell}
+use Rattle.stops.specs.declared.Jump.the-variants.{At}
+use Rattle.stops.proofs.Laws.{free-inside}
+use Rattle.looks.proofs.Going.{Moves, moves, left, falls, left-le}
 
 module _ (blocked : List ℕ) (w h : ℕ) (stops : ℕ → ℕ → Bool) (ox oy price : ℕ) (m : Moves ox oy) (hp : price ≤ 99) (c : Cell) (k : ℕ) where
   -- what was found from a cell at a cost

@@ -1,14 +1,8 @@
-// What the programs that replay a stored list share: its blocks, the numbers in them (least byte first), and what is printed.
-//
-// A list is a run of blocks, each a length of four bytes and as many bytes. Past a block's end every byte reads as 0, so no
-// place in it is out of bounds.
-pub mod answers;
-
+// Numbers in a list of bytes, least byte first. Past the list's end every byte reads as 0, so no place in it is out of bounds.
 ghost use mathlib.Core.Path.{_≡_};
 ghost use Prim.Native.Nat.{_≤_, _<_};
 ghost use lib.Ieee.{ofBits, binary32};
 ghost use lib.IntN.{negsuc};
-ghost use Rattle.io.specs.Counts.{Counts};
 ghost use Rattle.lists.specs.Numbers.{byteAt, pairAt, wordAt, signedOf};
 
 // The byte at a place.
@@ -86,30 +80,4 @@ pub fn f32_at(s: &[u8], at: usize) -> f32
         return 0.0 / 0.0;
     }
     f32::from_bits(v)
-}
-
-// Reads the next block to the front of buf and answers how many bytes it has: 0 at the list's end, and where a block is cut
-// short or is longer than buf.
-pub fn next_block(fd: i32, buf: &mut [u8]) -> usize
-    ensures { λ r. ⌜ Counts r (now (buf .exit)) ⌝ }
-{
-    let mut head = [0u8; 4];
-    io::read_full(fd, &mut head);
-    let n = u32_at(&head, 0) as usize;
-    if buf.len() < n {
-        return 0;
-    }
-    let got = io::read_full(fd, &mut buf[..n]);
-    if got < n {
-        return 0;
-    }
-    n
-}
-
-// Writes a line `name=value` to standard output.
-pub fn say(name: &[u8], value: u64) {
-    io::write_all(1, name);
-    io::write_all(1, b"=");
-    io::print_decimal(1, value);
-    io::write_all(1, b"\n");
 }

@@ -1,27 +1,29 @@
 -- The map text: lines `width=`, `height=`, `diagonal=` (0 or 1), `start=x,y`, `goal=x,y`, then `height` lines `row=` of `width` cells, and nothing after them.
 -- A text is the list of its bytes. Assumes nothing: these are definitions.
-use mathlib.Core.Bool.{Bool, true, false, cond, _&&_, _||_}
-use mathlib.Core.List.{List, [], _∷_, _++_}
-use Prim.Native.Nat.{ℕ, zero, suc, _+_}
-use lib.Dec.{leb, ltb, eqb}
+use mathlib.Core.Bool.{Bool, cond, _&&_}
+use mathlib.Core.List.{List, [], _∷_}
+use Prim.Native.Nat.{ℕ, _+_}
+use lib.Dec.{T, leb, ltb, eqb}
 use lib.ListN.{length, drop}
 use lib.Seq.{sets}
+use Rattle.points.specs.Plane.{legal}
 use Rattle.points.specs.declared.Point.{Point}
 use Rattle.cells.specs.Cells.{mostSide}
-use Rattle.text.specs.Grammar.{startsWith, numberLine, pointLine}
+use Rattle.lines.specs.Lines.{numberLine, pointLine}
 use Rattle.text.specs.declared.Num.{Num}
 use Rattle.text.specs.declared.Num.the-variants.{Whole, Wrong}
 use Rattle.text.specs.declared.Pair.{Pair}
 use Rattle.text.specs.declared.Pair.the-variants.{Both, Neither}
+use Rattle.rows.specs.Rows.{rowsOf, cellsOf}
+use Rattle.rows.specs.declared.Rows.{Rows}
+use Rattle.rows.specs.declared.Rows.the-variants.{Good, Bad as BadRow}
 use Rattle.maps.specs.declared.Header.{Header}
 use Rattle.maps.specs.declared.Head.{Head}
 use Rattle.maps.specs.declared.Head.the-variants.{Of, Bad as BadHead}
-use Rattle.maps.specs.declared.Rows.{Rows}
-use Rattle.maps.specs.declared.Rows.the-variants.{Good, Bad as BadRow}
 use Rattle.maps.specs.declared.Reading.{Reading}
 use Rattle.maps.specs.declared.Reading.the-variants.{Map, Bad}
 
--- "width=", "height=", "diagonal=", "start=", "goal=", "row="
+-- "width=", "height=", "diagonal=", "start=", "goal="
 abbrev pub widthWord : List ℕ
 widthWord = 119 ∷ 105 ∷ 100 ∷ 116 ∷ 104 ∷ 61 ∷ []
 
@@ -36,9 +38,6 @@ startWord = 115 ∷ 116 ∷ 97 ∷ 114 ∷ 116 ∷ 61 ∷ []
 
 abbrev pub goalWord : List ℕ
 goalWord = 103 ∷ 111 ∷ 97 ∷ 108 ∷ 61 ∷ []
-
-abbrev pub rowWord : List ℕ
-rowWord = 114 ∷ 111 ∷ 119 ∷ 61 ∷ []
 
 -- a side from 1 to the longest
 abbrev pub sideOk : ℕ → Bool
@@ -84,41 +83,12 @@ afterWidth t Wrong = BadHead 1
 unfoldable pub headOf : List ℕ → Head
 headOf t = afterWidth t (sizeLine widthWord t)
 
--- `.` (free) or `#`
-abbrev pub isCell : ℕ → Bool
-isCell b = eqb b 46 || eqb b 35
-
--- w cells and a newline
-unfoldable pub cellsThen : ℕ → List ℕ → Bool
-cellsThen zero [] = false
-cellsThen zero (b ∷ l) = eqb b 10
-cellsThen (suc w) [] = false
-cellsThen (suc w) (b ∷ l) = isCell b && cellsThen w l
-
--- a line `row=` of w cells
-unfoldable pub rowOk : ℕ → List ℕ → Bool
-rowOk w l = startsWith rowWord l && cellsThen w (drop 4 l)
-
--- h rows of w cells, the first of them in the line of that number, and nothing after them
-unfoldable pub rowsOf : ℕ → ℕ → ℕ → List ℕ → Rows
-rowsOf zero w line [] = Good
-rowsOf zero w line (b ∷ l) = BadRow line
-rowsOf (suc h) w line l = cond (rowOk w l) (rowsOf h w (line + 1) (drop (w + 5) l)) (BadRow line)
-
--- what a table holds of a cell: 1 where it is blocked
-abbrev pub markOf : ℕ → ℕ
-markOf b = cond (eqb b 35) 1 0
-
--- the first w of the text, as a table holds them
-unfoldable pub marks : ℕ → List ℕ → List ℕ
-marks zero l = []
-marks (suc w) [] = []
-marks (suc w) (b ∷ l) = markOf b ∷ marks w l
-
--- the cells of h rows, up to the first bad one
-unfoldable pub cellsOf : ℕ → ℕ → List ℕ → List ℕ
-cellsOf zero w l = []
-cellsOf (suc h) w l = cond (rowOk w l) (marks w (drop 4 l) ++ cellsOf h w (drop (w + 5) l)) []
+-- sides and points in range
+pub record Fair (m : Header) : Type 0 where
+  pub wide : T (sideOk (m .width))
+  pub high : T (sideOk (m .height))
+  pub start : T (legal (m .start))
+  pub goal : T (legal (m .goal))
 
 abbrev pub withRows : Header → Rows → Reading
 withRows m Good = Map m

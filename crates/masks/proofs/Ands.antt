@@ -21,19 +21,19 @@ unfolding same Keeps
 keeps d k t m h = eqb→eq (bitAnd m k) (straightOf d m) (at (same d k) (replicate {A = ℕ} 256 0) t m h)
 
 pub and-0 : (m : ℕ) → m < 256 → bitAnd m 69 ≡ straightOf 0 m
-unfolding same Keeps straightOf bitAnd
+unfolding same Keeps straightOf
 and-0 = keeps 0 69 tt
 
 pub and-2 : (m : ℕ) → m < 256 → bitAnd m 21 ≡ straightOf 2 m
-unfolding same Keeps straightOf bitAnd
+unfolding same Keeps straightOf
 and-2 = keeps 2 21 tt
 
 pub and-4 : (m : ℕ) → m < 256 → bitAnd m 84 ≡ straightOf 4 m
-unfolding same Keeps straightOf bitAnd
+unfolding same Keeps straightOf
 and-4 = keeps 4 84 tt
 
 pub and-6 : (m : ℕ) → m < 256 → bitAnd m 81 ≡ straightOf 6 m
-unfolding same Keeps straightOf bitAnd
+unfolding same Keeps straightOf
 and-6 = keeps 6 81 tt
 
 -- an odd direction keeps none

@@ -5,7 +5,6 @@ ghost use Rattle.masks.specs.Masks.{hasBit, forcedOf, straightOf, pruned
 
 mod forced;
 mod table;
-mod turned;
 
 // Whether bit d of a mask is set, d modulo 8.
 pub fn bit(m: u8, d: u8) -> bool
@@ -41,16 +40,6 @@ pub fn pruned_mask(diagonal: bool, d: u8, m: u8) -> u8
 {
     if diagonal {
         return table::pruned(d, m);
-    }
-    straight(d, m)
-}
-
-// The same, without the table, which each use copies.
-pub fn pruned_now(diagonal: bool, d: u8, m: u8) -> u8
-    ensures { λ r. ⌜ r ≡ prunedIn diagonal (d % 8) m ⌝ }
-{
-    if diagonal {
-        return turned::pruned(d, m);
     }
     straight(d, m)
 }

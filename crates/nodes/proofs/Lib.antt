@@ -2,3 +2,4 @@
 mod Views
 pub mod Laws
 pub mod History
+pub mod Places

@@ -5,27 +5,29 @@ use mathlib.Core.List.{List}
 use mathlib.Core.Logic.{⊎-elim, _⊎_, inl, inr}
 use Prim.Native.Nat.{ℕ, zero, suc, _+_, _-_, _^_, _<_, _≤_}
 use native.Mathlib.Omega.{arith}
-use lib.Dec.{ltb, leb}
-use borrow.Author.Tests.{ltb-true, ltb-false, leb-false}
+use lib.Dec.{ltb}
+use borrow.Author.Tests.{ltb-true, ltb-false}
 use lib.ListN.{length, getD}
 use Rattle.costs.specs.Limits.{mostDepth}
 use Rattle.goals.specs.declared.Plan.{Plan}
 use Rattle.goals.specs.Goals.{mostSide}
-use Rattle.fringe.specs.declared.Entry.{Entry}
-use Rattle.fringe.specs.Fringe.{entry, at, push, top}
-use Rattle.fringe.specs.Order.{Each, Ordered, Before}
-use Rattle.fringe.proofs.Laws.{length-push, length-rest, each-push, each-rest, ordered-push, ordered-rest, top-first}
+use Rattle.sifts.specs.declared.Entry.{Entry}
+use Rattle.sifts.specs.Sifts.{entry, at}
+use Rattle.fringe.specs.Fringe.{push, top}
+use Rattle.fringe.specs.Order.{Each, Ordered}
+use Rattle.keys.specs.Order.{Before}
+use Rattle.fringe.proofs.Laws.{length-push, length-rest, each-push, each-rest, ordered-push, ordered-rest}
 use Rattle.nodes.specs.Nodes.{Nodes, nodes, noteOf, Later}
 use Rattle.nodes.specs.Bound.{times, Hist, edgeOf, placesOf}
 use Rattle.nodes.proofs.History.{hist-bound, hist-note, past-note, cost-fits, base-bound}
 use Rattle.nodes.proofs.Laws.{took, Took, later-refl}
-use Rattle.fringe.specs.Keys.{keyOf, costOf}
-use Rattle.fringe.proofs.Order.{key-cost}
+use Rattle.keys.specs.Keys.{keyOf, costOf}
+use Rattle.keys.proofs.Order.{key-cost, top-first}
 use Rattle.offers.specs.declared.Mark.{Mark}
 use Rattle.points.specs.declared.Refusal.{Refusal}
 use Rattle.points.specs.declared.Refusal.the-variants.{Fringe}
 use lib.IntN.{ℤ}
-use Rattle.offers.specs.Search.{Ended, State, state, view, Out, ok, no, onward, offerOf, each, popped, visitOf, Turn, hit, on, halt, toTurn, turnOf, going, run, Reply, found, refused, Fit, Lent, Queued, Rising, Good, Next, Keeps, Expansion}
+use Rattle.offers.specs.Search.{Ended, State, state, view, Out, ok, no, onward, offerOf, each, popped, visitOf, hit, on, toTurn, turnOf, Fit, Lent, Queued, Rising, Good, Next, Keeps, Expansion}
 use Rattle.offers.proofs.Laws.{count-le}
 
 -- two answers that are states are the same state
@@ -35,7 +37,8 @@ same-ok s t e = cc
 pub never-no : {P : Type 0} (w : Refusal) (t : State) → no w ≡ ok t → P
 never-no w t e = let z : _≡_ {A = ℕ} 0 1 = cc in absurd (omega arith)
 
-offered-cases : (b l : Bool) (x y t : State) → cond b (cond l (ok x) (no Fringe)) (ok y) ≡ ok t → ((b ≡ true) × ((l ≡ true) × (x ≡ t))) ⊎ ((b ≡ false) × (y ≡ t))
+-- an offer that is not refused: recorded and pushed, or left as it was
+pub offered-cases : (b l : Bool) (x y t : State) → cond b (cond l (ok x) (no Fringe)) (ok y) ≡ ok t → ((b ≡ true) × ((l ≡ true) × (x ≡ t))) ⊎ ((b ≡ false) × (y ≡ t))
 offered-cases true true x y t e = inl (refl, (refl, same-ok x t e))
 offered-cases true false x y t e = never-no Fringe t e
 offered-cases false l x y t e = inr (refl, same-ok y t e)
@@ -188,7 +191,7 @@ module _ (n limit edge area : ℕ) (s t : State) (g : Good n limit edge area s) 
       (λ b o. let l = ltb-false (getD (s .nodes .cost) i 0) k b in keeps i k s t g hi (omega arith) o) e
 
 -- a turn that goes on, or that ends at a goal
-turn-cases : (b : Bool) (i k : ℕ) (s t : State) (o : Out) → cond b (hit i k s) (toTurn o) ≡ on t → o ≡ ok t
+pub turn-cases : (b : Bool) (i k : ℕ) (s t : State) (o : Out) → cond b (hit i k s) (toTurn o) ≡ on t → o ≡ ok t
 turn-cases true i k s t o e = let z : _≡_ {A = ℕ} 0 1 = cc in absurd (omega arith)
 turn-cases false i k s t (ok u) e = let z : u ≡ t = cc in ap ok z
 turn-cases false i k s t (no w) e = let z : _≡_ {A = ℕ} 0 1 = cc in absurd (omega arith)
@@ -217,37 +220,6 @@ module _ (n limit edge area : ℕ) (exp : Expansion) (goal : ℕ → Bool) (keep
         known = subst (λ (x : State). i < length (x .nodes .place)) (h .1 .1) (subst (λ (x : ℕ). x < length (s .nodes .place)) (h .0) (w .1 .known));
         low = subst (λ (x : ℕ). x ≤ times edge n) (h .1 .0) (w .1 .low);
       }
-
--- the whole loop: a goal that is found leaves a good state, in which it is a node
-no-found : {P : Type 0} (i k m n : ℕ) (t : State) (w : Refusal) → found i k m t ≡ refused w n → P
-no-found i k m n t w e = let z : _≡_ {A = ℕ} 0 1 = cc in absurd (omega arith)
-
-module _ (n limit edge area : ℕ) (exp : Expansion) (goal : ℕ → Bool) (keeps : Keeps n limit edge area exp) (i k m : ℕ) (t : State) where
-  zero-case : (b : Bool) (pops : ℕ) (w v : Refusal) {P : Type 0} → found i k m t ≡ cond b (refused w pops) (refused v pops) → P
-  zero-case true pops w v e = no-found i k m pops t w e
-  zero-case false pops w v e = no-found i k m pops t v e
-
-  suc-case : (b : Bool) (pops : ℕ) (w : Refusal) (r : Reply) {P : Type 0} → (b ≡ false → found i k m t ≡ r → P) → found i k m t ≡ cond b (refused w pops) r → P
-  suc-case true pops w r f e = no-found i k m pops t w e
-  suc-case false pops w r f e = f refl e
-
-  going-case : (x : Turn) (next : State → Reply) (pops : ℕ) {P : Type 0} → (hit i k t ≡ x → P) → ((u : State) → on u ≡ x → found i k m t ≡ next u → P) → found i k m t ≡ going x next pops → P
-  going-case (hit j l u) next pops f g e = let a : i ≡ j = cc in let b : k ≡ l = cc in let d : t ≡ u = cc in f (rw (a, b, d))
-  going-case (on u) next pops f g e = g u refl e
-  going-case (halt w) next pops f g e = no-found i k m pops t w e
-
-  pub run-ended : (left pops : ℕ) (s : State) → Good n limit edge area s → found i k m t ≡ run exp goal left pops s → Ended n limit edge area i k t
-  unfolding run
-  run-ended zero pops s g e = zero-case (leb (s .size) 0) pops _ _ e
-  run-ended (suc left) pops s g e =
-      suc-case (leb (s .size) 0) pops _ _
-      (λ z f.
-      let pos : 0 < s .size = leb-false (s .size) 0 z in
-      going-case (turnOf exp goal (top (s .heap)) (popped s)) (run exp goal left (pops + 1)) (pops + 1)
-      (λ h. turn-end n limit edge area exp goal keeps s g pos i k t h)
-      (λ u h l. run-ended left (pops + 1) u (turn-next n limit edge area exp goal keeps s g pos u h .good) l)
-      f)
-      e
 
 -- the slices after a step: the sizes are the same, and the state is fit
 pub lent-next : {goals : List ℤ} {p : Plan} {number place parent cost keys idx : List ℕ} {m : Mark} → Lent goals p number place parent cost keys idx m

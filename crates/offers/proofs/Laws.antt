@@ -9,11 +9,12 @@ use borrow.Author.Tests.{eq-eqb, ne-eqb, lt-ltb, le-ltb}
 use lib.Dec.{T, lit<}
 use lib.ListN.{length}
 use Rattle.goals.specs.declared.Plan.{Plan}
-use Rattle.fringe.specs.declared.Entry.{Entry}
-use Rattle.fringe.specs.Fringe.{entry, push}
+use Rattle.sifts.specs.declared.Entry.{Entry}
+use Rattle.sifts.specs.Sifts.{entry}
+use Rattle.fringe.specs.Fringe.{push}
 use Rattle.nodes.specs.Nodes.{Nodes, Note, nodes, noteOf, Sound, Able, filled}
 use Rattle.nodes.proofs.Laws.{took, filled-le, filled-lt}
-use Rattle.fringe.specs.Keys.{keyOf}
+use Rattle.keys.specs.Keys.{keyOf}
 use Rattle.offers.specs.declared.Mark.{Mark}
 use Rattle.points.specs.declared.Refusal.the-variants.{Fringe}
 use Rattle.points.specs.Plane.{legal}

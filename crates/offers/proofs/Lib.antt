@@ -2,5 +2,6 @@
 pub mod Laws
 pub mod Good
 pub mod Start
+pub mod Passed
 pub mod Loop
 pub mod Rounds

@@ -5,9 +5,9 @@ use Prim.Native.Nat.{ℕ, zero, suc, _+_, _-_, _<_, _≤_}
 use native.Mathlib.Omega.{arith}
 use borrow.Author.Tests.{le-leb, lt-leb, lt-ltb, le-ltb}
 use lib.ListN.{getD}
-use Rattle.fringe.specs.declared.Entry.{Entry}
+use Rattle.sifts.specs.declared.Entry.{Entry}
 use Rattle.fringe.specs.Fringe.{top}
-use Rattle.fringe.specs.Keys.{costOf}
+use Rattle.keys.specs.Keys.{costOf}
 use Rattle.points.specs.declared.Refusal.{Refusal}
 use Rattle.points.specs.declared.Refusal.the-variants.{Exhausted, Pops}
 use Rattle.offers.specs.Search.{State, Out, ok, no, onward, each, popped, visitOf, Turn, hit, on, halt, toTurn, turnOf, going, run, found, refused, Expansion}

@@ -7,15 +7,16 @@ use native.Mathlib.Nat.{le-refl, not-suc-le-zero}
 use native.Mathlib.Omega.{arith}
 use borrow.Author.Tests.{eq-eqb}
 use lib.ListN.{length, getD, set, length-set, replicate, length-replicate, getD-replicate, List·getD-eq-default}
-use Rattle.fringe.specs.Fringe.{entry, push}
+use Rattle.sifts.specs.Sifts.{entry}
+use Rattle.fringe.specs.Fringe.{push}
 use Rattle.fringe.proofs.Laws.{length-push, each-push, ordered-nil, ordered-push}
 use Rattle.nodes.specs.Nodes.{added, Note, nodes, note, noteOf, Sound, filled}
 use Rattle.nodes.specs.Bound.{times, Hist}
 use lib.Seq.{getD-set-other}
 use Rattle.nodes.proofs.Laws.{filled-set, took, by-eq, by-lt}
-use Rattle.fringe.specs.Keys.{keyOf}
-use Rattle.fringe.proofs.Order.{key-cost}
-use Rattle.offers.specs.Search.{state, none, begin, Queued, Good}
+use Rattle.keys.specs.Keys.{keyOf}
+use Rattle.keys.proofs.Order.{key-cost}
+use Rattle.offers.specs.Search.{State, state, none, begin, Queued, Good}
 
 pub zeros : (n c : ℕ) → _≡_ {A = ℕ} (getD (replicate n 0) c 0) 0
 zeros n c = by-lt c n (λ h. getD-replicate n c 0 0 h) (λ h. List·getD-eq-default (replicate n 0) 0 (omega (arith, length-replicate {A = ℕ} n 0)))
@@ -62,6 +63,10 @@ begin-one n start i h = omega arith
 begin-zero : (n start i : ℕ) → i ≡ 0 → getD (added start 0 0 (none n) .cost) i 0 ≡ 0
 unfolding none added
 begin-zero n start i q = rw q
+
+-- the start costs nothing
+pub begin-free : (n start : ℕ) → getD (begin n start .nodes .cost) 0 0 ≡ 0
+begin-free n start = ap (λ (s : State). getD (s .nodes .cost) 0 0) (begin-is n start) ∙ begin-zero n start 0 refl
 
 begin-floor : (n start : ℕ) → length (added start 0 0 (none n) .number) ≡ n
 unfolding none added

@@ -12,10 +12,12 @@ use Rattle.points.specs.declared.Refusal.{Refusal}
 use Rattle.points.specs.declared.Refusal.the-variants.{Exhausted, Fringe, Pops}
 use Rattle.goals.specs.declared.Plan.{Plan}
 use Rattle.goals.specs.Goals.{mostSide, pointOf, guessOf, Aimed}
-use Rattle.fringe.specs.declared.Entry.{Entry}
-use Rattle.fringe.specs.Fringe.{entry, entries, push, top, rest}
-use Rattle.fringe.specs.Keys.{keyOf, costOf}
-use Rattle.fringe.specs.Order.{Each, Ordered, Packed}
+use Rattle.sifts.specs.declared.Entry.{Entry}
+use Rattle.sifts.specs.Sifts.{entry, entries}
+use Rattle.fringe.specs.Fringe.{push, top, rest}
+use Rattle.keys.specs.Keys.{keyOf, costOf}
+use Rattle.fringe.specs.Order.{Each, Ordered}
+use Rattle.keys.specs.Order.{Packed}
 use Rattle.nodes.specs.Nodes.{Nodes, Note, nodes, noteOf, Sound, Later}
 use Rattle.nodes.specs.Bound.{times, Hist, placesOf}
 use Rattle.offers.specs.declared.Mark.{Mark}

@@ -70,7 +70,7 @@ pub fn offer(
             };
         }
         let h = goals::guess(goals, p, at);
-        let key = fringe::keys::key_of(k + h, h);
+        let key = keys::key_of(k + h, h);
         let node = r.index;
         fringe::push(keys, idx, heap, key, node as u32);
         return Step {

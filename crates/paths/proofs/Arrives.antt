@@ -1,13 +1,11 @@
 -- A walk of as many steps as the longer difference ends at its waypoint. Assumes nothing.
-use mathlib.Core.Path.{_≡_, refl, sym, ap, _∙_, subst}
-use mathlib.Core.List.{List, [], _∷_}
-use Prim.Native.Nat.{ℕ, zero, suc, _+_, _-_, _*_, _≤_, _<_, max}
+use mathlib.Core.Path.{_≡_, refl, sym, ap, _∙_}
+use Prim.Native.Nat.{ℕ, zero, suc, _+_, _-_, _*_, _≤_}
 use native.Mathlib.Omega.{arith}
-use lib.IntN.{ℤ, pos, natAbs, _+ℤ_, _-ℤ_}
+use lib.IntN.{ℤ, pos, natAbs, _-ℤ_}
 use lib.ListN.{getD}
-use Rattle.points.specs.Compass.{signOf}
 use Rattle.points.specs.declared.Point.{Point}
-use Rattle.points.proofs.Halves.{signZ, nearer, same, sub-law, abs-is, apart}
+use Rattle.points.proofs.Halves.{nearer, same, sub-law, abs-is, apart}
 use Rattle.paths.specs.Walks.{closerTo, nextTo, spanOf, walkOf}
 use Rattle.paths.proofs.Laws.{step-is}
 

@@ -1,14 +1,14 @@
 -- Laws of the walk: a step stays in range, a turn of each loop, and the lengths. Assumes nothing.
-use mathlib.Core.Path.{_≡_, refl, sym, ap, _∙_, subst, subst⁻¹}
-use mathlib.Core.Bool.{Bool, true, false, _&&_, true≢false, cond}
+use mathlib.Core.Path.{_≡_, refl, sym, ap, _∙_, subst}
+use mathlib.Core.Bool.{Bool, true, false, cond}
 use mathlib.Core.List.{List, [], _∷_, _++_}
-use Prim.Native.Nat.{ℕ, zero, suc, _+_, _-_, _*_, _/_, _%_, _≤_, _<_, max}
+use Prim.Native.Nat.{ℕ, zero, suc, _+_, _-_, _*_, _/_, _%_, _≤_, _<_}
 use native.Mathlib.Omega.{arith}
-use borrow.Author.Tests.{leb-true, lt-ltb, le-ltb, le-leb, lt-leb, eq-eqb, ne-eqb}
-use lib.Dec.{T, leb, eqb, le→leb}
-use lib.IntN.{ℤ, pos, negsuc, natAbs, _+ℤ_, _-ℤ_, +ℤ-idr}
-use lib.ListN.{length, getD, set, drop, length-append, length-set, drop-of-length-le}
-use lib.Seq.{sets, drop-cons}
+use borrow.Author.Tests.{leb-true, le-leb, lt-leb, eq-eqb, ne-eqb}
+use lib.Dec.{T, leb, le→leb}
+use lib.IntN.{ℤ, pos, negsuc, _+ℤ_, _-ℤ_, +ℤ-idr}
+use lib.ListN.{length, getD, set, drop, length-append, drop-of-length-le}
+use lib.Seq.{sets}
 use lib.Signed.{mag}
 use lib.Ieee.Fits.{and-i}
 use mir.Syntax.{w32}
@@ -16,14 +16,14 @@ use mir.Val.{SFits}
 use Rattle.points.specs.Plane.{inRange, legal}
 use Rattle.points.specs.Compass.{signOf}
 use Rattle.points.specs.declared.Point.{Point}
-use Rattle.points.specs.declared.Sign.the-variants.{Minus, Zero, Plus}
 use Rattle.points.specs.declared.Refusal.the-variants.{List as ListBroken, BadPoint}
 use Rattle.points.proofs.Signed.{in-halves}
 use Rattle.points.proofs.Halves.{signZ, step-in, mag-of, sub-law, add-is, apart}
-use Rattle.paths.specs.Walks.{stepBy, closerTo, nextTo, spanOf, walkOf, pathFrom, pathOf, firstBad, point, pointAt, countedOf, pathAnswer, pointOf, roomOf, freeAt, allFree}
-use Rattle.cells.specs.Cells.{cellOf}
-use Rattle.paths.specs.declared.Bad.{Bad}
-use Rattle.paths.specs.declared.Bad.the-variants.{At, Nowhere}
+use Rattle.pairs.specs.Pairs.{firstBad, point, pointAt}
+use Rattle.paths.specs.Walks.{stepBy, closerTo, nextTo, spanOf, walkOf, pathFrom, pathOf, countedOf, pathAnswer, pointOf, roomOf}
+use Rattle.pairs.specs.declared.Bad.{Bad}
+use Rattle.pairs.specs.declared.Bad.the-variants.{At, Nowhere}
+use Rattle.pairs.proofs.Laws.{two-more}
 use Rattle.paths.specs.declared.Written.the-variants.{Refused}
 use Rattle.paths.specs.declared.Counted.{Counted}
 use Rattle.paths.specs.declared.Counted.the-variants.{Few, Over}
@@ -97,47 +97,11 @@ walk-here out new k p q r left e f h =
     ∙ (λ i. sets (set (set out k (e i .x)) (k + 1) (e i .y)) (k + 2) (walkOf (left - 1) (e i) q))
     ∙ sym (walk-turn out k p q left h)
 
--- ---- a list of points, two numbers at a time
+-- ---- the path, one waypoint at a time
 module _ (l : List ℤ) (i : ℕ) where
-  pub two-more : i + 1 < length l → drop i l ≡ getD l i (pos 0) ∷ getD l (i + 1) (pos 0) ∷ drop (i + 2) l
-  two-more h =
-      drop-cons l i (pos 0) (omega arith)
-      ∙ ap (λ (r : List ℤ). getD l i (pos 0) ∷ r) (ap (λ (n : ℕ). drop n l) one ∙ drop-cons l (i + 1) (pos 0) h ∙ ap (λ (n : ℕ). getD l (i + 1) (pos 0) ∷ drop n l) two)
-    where
-      one : suc i ≡ i + 1
-      one = omega arith
-
-      two : suc (i + 1) ≡ i + 2
-      two = omega arith
-
-  pub bad-more : i + 1 < length l → firstBad (drop i l) ≡ cond (legal (pointAt l i)) (firstBad (drop (i + 2) l)) (At (pointAt l i))
-  unfolding firstBad
-  bad-more h = ap firstBad (two-more h)
-
-  pub bad-here : i + 1 < length l → legal (pointAt l i) ≡ false → At (pointAt l i) ≡ firstBad (drop i l)
-  bad-here h e = sym (bad-more h ∙ ap (λ (t : Bool). cond t (firstBad (drop (i + 2) l)) (At (pointAt l i))) e)
-
-  pub bad-next : i + 1 < length l → legal (pointAt l i) ≡ true → firstBad (drop (i + 2) l) ≡ firstBad (drop i l)
-  bad-next h e = sym (bad-more h ∙ ap (λ (t : Bool). cond t (firstBad (drop (i + 2) l)) (At (pointAt l i))) e)
-
-  pub bad-end : length l ≤ i → firstBad (drop i l) ≡ Nowhere
-  unfolding firstBad
-  bad-end h = ap firstBad (drop-of-length-le l h)
-
-  -- past a list with no bad point: this point is legal, and none of the rest is bad
-  pub none-bad : i + 1 < length l → firstBad (drop i l) ≡ Nowhere → T (legal (pointAt l i)) × (firstBad (drop (i + 2) l) ≡ Nowhere)
-  none-bad h e = go (legal (pointAt l i)) (sym (bad-more h) ∙ e)
-    where
-      go : (t : Bool) → cond t (firstBad (drop (i + 2) l)) (At (pointAt l i)) ≡ Nowhere → T t × (firstBad (drop (i + 2) l) ≡ Nowhere)
-      go true q = (tt, q)
-      go false q = absurd (never q)
-        where
-          never : At (pointAt l i) ≡ Nowhere → ⊥
-          never q = let z : _≡_ {A = ℕ} 0 1 = cc in omega arith
-
   pub path-more : (p : Point) → i + 1 < length l → pathFrom p (drop i l) ≡ walkOf (spanOf p (pointAt l i)) p (pointAt l i) ++ pathFrom (pointAt l i) (drop (i + 2) l)
   unfolding pathFrom
-  path-more p h = ap (pathFrom p) (two-more h)
+  path-more p h = ap (pathFrom p) (two-more l i h)
 
   pub path-end : (p : Point) → length l ≤ i → pathFrom p (drop i l) ≡ []
   unfolding pathFrom
@@ -170,9 +134,6 @@ stores-more out at l i p h =
 
 -- ---- the same for a point that a call handed back
 module _ (l : List ℤ) (i : ℕ) (p r : Point) (e : r ≡ pointAt l i) where
-  pub legal-here : T (legal (pointAt l i)) → T (legal r)
-  legal-here t = subst (λ (q : Point). T (legal q)) (sym e) t
-
   pub length-here : i + 1 < length l → length (pathFrom p (drop i l)) ≡ 2 * spanOf p r + length (pathFrom r (drop (i + 2) l))
   length-here h = length-more l i p h ∙ ap (λ (q : Point). 2 * spanOf p q + length (pathFrom q (drop (i + 2) l))) (sym e)
 
@@ -244,29 +205,3 @@ module _ (l : List ℤ) (room : ℕ) where
 
       pub answer-counted : (k : Counted) → firstBad l ≡ Nowhere → k ≡ countedOf l (room / 2) → roomOf k ≡ pathAnswer l room
       answer-counted k e f = sym (whole ∙ ap (λ (b : Bad). pointOf b (roomOf (countedOf l (room / 2)))) e ∙ ap roomOf (sym f))
-
--- ---- the route check, one point at a time
-module _ (w h : ℕ) (blocked : List ℕ) where
-  pub free-out : (p : Point) → w * h ≤ cellOf w h p → false ≡ freeAt w h blocked p
-  unfolding freeAt
-  free-out p e = sym (ap (λ (t : Bool). t && eqb (getD blocked (cellOf w h p) 0) 0) (le-ltb (cellOf w h p) (w * h) e))
-
-  pub free-in : (p : Point) → cellOf w h p < w * h → eqb (getD blocked (cellOf w h p) 0) 0 ≡ freeAt w h blocked p
-  unfolding freeAt
-  free-in p e = sym (ap (λ (t : Bool). t && eqb (getD blocked (cellOf w h p) 0) 0) (lt-ltb (cellOf w h p) (w * h) e))
-
-  module _ (l : List ℤ) (i : ℕ) where
-    pub clear-end : length l ≤ i → allFree w h blocked (drop i l) ≡ true
-    unfolding allFree
-    clear-end e = ap (allFree w h blocked) (drop-of-length-le l e)
-
-    module _ (r : Point) (e : r ≡ pointAt l i) (more : i + 1 < length l) where
-      turn : (t : Bool) → t ≡ freeAt w h blocked r → allFree w h blocked (drop i l) ≡ t && allFree w h blocked (drop (i + 2) l)
-      unfolding allFree
-      turn t f = ap (allFree w h blocked) (two-more l i more) ∙ (λ j. (ap (freeAt w h blocked) (sym e) ∙ sym f) j && allFree w h blocked (drop (i + 2) l))
-
-      pub clear-not : false ≡ freeAt w h blocked r → allFree w h blocked (drop i l) ≡ false
-      clear-not f = turn false f
-
-      pub clear-more : true ≡ freeAt w h blocked r → allFree w h blocked (drop i l) ≡ allFree w h blocked (drop (i + 2) l)
-      clear-more f = turn true f

@@ -1,24 +1,21 @@
--- `waypoints_to_path`: the walk by sign to each waypoint; and the route check. A list of points is a list of numbers, x and y in turn. Assumes nothing: these are definitions.
-use mathlib.Core.Path.{_≡_}
-use mathlib.Core.Bool.{Bool, true, false, _&&_, cond}
+-- `waypoints_to_path`: the walk by sign to each waypoint. A list of points is a list of numbers, x and y in turn. Assumes nothing: these are definitions.
+use mathlib.Core.Bool.{cond}
 use mathlib.Core.List.{List, [], _∷_, _++_}
 use Prim.Native.Nat.{ℕ, zero, suc, _+_, _*_, _/_, _%_, max}
-use lib.Dec.{leb, ltb, eqb}
-use lib.IntN.{ℤ, pos, negsuc, natAbs, _+ℤ_, _-ℤ_}
-use lib.ListN.{length, getD, drop}
+use lib.Dec.{leb, eqb}
+use lib.IntN.{ℤ, pos, natAbs, _+ℤ_, _-ℤ_}
+use lib.ListN.{length}
 use lib.Seq.{sets}
-use Rattle.points.specs.Plane.{legal}
 use Rattle.points.specs.Compass.{signOf}
-use Rattle.cells.specs.Cells.{cellOf}
 use Rattle.points.specs.declared.Point.{Point}
 use Rattle.points.specs.declared.Sign.{Sign}
 use Rattle.points.specs.declared.Sign.the-variants.{Minus, Zero, Plus}
-use Rattle.points.specs.declared.Refusal.{Refusal}
 use Rattle.points.specs.declared.Refusal.the-variants.{List as ListBroken, Room, BadPoint}
+use Rattle.pairs.specs.Pairs.{point, firstBad}
+use Rattle.pairs.specs.declared.Bad.{Bad}
+use Rattle.pairs.specs.declared.Bad.the-variants.{At, Nowhere}
 use Rattle.paths.specs.declared.Written.{Written}
 use Rattle.paths.specs.declared.Written.the-variants.{Points, Refused}
-use Rattle.paths.specs.declared.Bad.{Bad}
-use Rattle.paths.specs.declared.Bad.the-variants.{At, Nowhere}
 use Rattle.paths.specs.declared.Counted.{Counted}
 use Rattle.paths.specs.declared.Counted.the-variants.{Few, Over}
 
@@ -44,13 +41,6 @@ unfoldable pub walkOf : ℕ → Point → Point → List ℤ
 walkOf zero p q = []
 walkOf (suc n) p q = nextTo p q .x ∷ nextTo p q .y ∷ walkOf n (nextTo p q) q
 
-abbrev pub point : ℤ → ℤ → Point
-point x y = record { x = x; y = y }
-
--- the point whose numbers stand at i and after it
-abbrev pub pointAt : List ℤ → ℕ → Point
-pointAt l i = point (getD l i (pos 0)) (getD l (i + 1) (pos 0))
-
 -- the points after p: the walk to each waypoint in turn
 unfoldable pub pathFrom : Point → List ℤ → List ℤ
 unfolding walkOf
@@ -65,19 +55,9 @@ pathOf [] = []
 pathOf (x ∷ []) = []
 pathOf (x ∷ y ∷ l) = x ∷ y ∷ pathFrom (point x y) l
 
--- the first point out of coordinate range
-unfoldable pub firstBad : List ℤ → Bad
-firstBad [] = Nowhere
-firstBad (x ∷ []) = Nowhere
-firstBad (x ∷ y ∷ l) = cond (legal (point x y)) (firstBad l) (At (point x y))
-
 -- how many points the path has, if there is room for them
 unfoldable pub countedOf : List ℤ → ℕ → Counted
 countedOf l room = cond (leb (length (pathOf l)) (2 * room)) (Few (length (pathOf l) / 2)) Over
-
--- a list of points has both numbers of each
-abbrev pub Even : ℕ → Type 0
-Even n = n % 2 ≡ 0
 
 abbrev pub roomOf : Counted → Written
 roomOf (Few n) = Points n
@@ -98,17 +78,3 @@ pathAnswer l room =
 abbrev pub pathKept : Written → List ℤ → List ℤ → List ℤ
 pathKept (Points n) l out = sets out 0 (pathOf l)
 pathKept (Refused r) l out = out
-
--- a point is inside and free
-unfoldable pub freeAt : ℕ → ℕ → List ℕ → Point → Bool
-freeAt w h blocked p = ltb (cellOf w h p) (w * h) && eqb (getD blocked (cellOf w h p) 0) 0
-
--- every point of a list is inside and free
-unfoldable pub allFree : ℕ → ℕ → List ℕ → List ℤ → Bool
-allFree w h blocked [] = true
-allFree w h blocked (x ∷ []) = true
-allFree w h blocked (x ∷ y ∷ l) = freeAt w h blocked (point x y) && allFree w h blocked l
-
--- every waypoint after the first is inside and free
-abbrev pub clearOf : ℕ → ℕ → List ℕ → List ℤ → Bool
-clearOf w h blocked l = allFree w h blocked (drop 2 l)

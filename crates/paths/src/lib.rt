@@ -1,12 +1,14 @@
-// Waypoints: walked into a path, and checked against the cells.
+// Waypoints walked into a path.
 ghost use mathlib.Core.Path.{_≡_};
-ghost use Prim.Native.Nat.{_+_, _*_, _≤_, _<_};
+ghost use Prim.Native.Nat.{_+_, _*_, _≤_};
 ghost use lib.Dec.{T};
-ghost use lib.ListN.{length, set};
+ghost use lib.ListN.{length};
 ghost use lib.Seq.{sets};
 ghost use Rattle.points.specs.Plane.{inRange, legal};
-ghost use Rattle.paths.specs.Walks.{closerTo, nextTo, spanOf, walkOf, pointAt, firstBad, pathOf, countedOf, pathAnswer, pathKept, Even, freeAt, clearOf};
-ghost use Rattle.cells.specs.Cells.{mostSide};
+ghost use Rattle.pairs.specs.Pairs.{Even, firstBad};
+ghost use Rattle.pairs.specs.declared.Bad.the-variants.{Nowhere};
+ghost use Rattle.paths.specs.Walks.{closerTo, nextTo, spanOf, walkOf, pathOf, countedOf, pathAnswer, pathKept};
+use pairs::Bad;
 use points::Point;
 use points::Refusal;
 use points::Sign;
@@ -15,12 +17,6 @@ use points::Sign;
 pub enum Written {
     Points(usize),
     Refused(Refusal),
-}
-
-// The first point out of range.
-pub enum Bad {
-    At(Point),
-    Nowhere,
 }
 
 // How many points there are, or more than there is room for.
@@ -65,17 +61,6 @@ fn next(p: Point, q: Point) -> Point
     }
 }
 
-// A point's two numbers, written at a place.
-fn put(out: &mut [i32], at: usize, p: Point)
-    requires { ⌜ at + 1 < length (now out) ⌝ }
-    ensures { λ _. ⌜ now (out .exit) ≡ set (set (now (out .entry)) at (p .x)) (at + 1) (p .y) ⌝ }
-{
-    let x = p.x;
-    let y = p.y;
-    out[at] = x;
-    out[at + 1] = y;
-}
-
 // The steps from p to q, written at a place.
 fn put_walk(out: &mut [i32], at: usize, p: Point, q: Point, steps: usize)
     requires { ⌜ T (legal p) × T (legal q) × (at + 2 * steps ≤ length (now out)) ⌝ }
@@ -86,52 +71,25 @@ fn put_walk(out: &mut [i32], at: usize, p: Point, q: Point, steps: usize)
     let mut left = steps;
     while 0 < left {
         here = next(here, q);
-        put(out, k, here);
+        pairs::put(out, k, here);
         k += 2;
         left -= 1;
     }
 }
 
-// The point whose numbers stand at i and after it.
-pub fn point_at(list: &[i32], i: usize) -> Point
-    requires { ⌜ i + 1 < length (now list) ⌝ }
-    ensures { λ r. ⌜ r ≡ pointAt (now (list .entry)) i ⌝ }
-{
-    Point {
-        x: list[i],
-        y: list[i + 1],
-    }
-}
-
-// The first point of a list that is out of range.
-pub fn bad_point(list: &[i32]) -> Bad
-    requires { ⌜ Even (length (now list)) ⌝ }
-    ensures { λ r. ⌜ r ≡ firstBad (now (list .entry)) ⌝ }
-{
-    let mut i = 0;
-    while i < list.len() {
-        let p = point_at(list, i);
-        if !p.legal() {
-            return Bad::At(p);
-        }
-        i += 2;
-    }
-    Bad::Nowhere
-}
-
 // How many points the path has, if the room holds them.
 fn count(list: &[i32], room: usize) -> Counted
-    requires { ⌜ Even (length (now list)) × (1 ≤ length (now list)) × (firstBad (now list) ≡ Bad.Nowhere) ⌝ }
+    requires { ⌜ Even (length (now list)) × (1 ≤ length (now list)) × (firstBad (now list) ≡ Nowhere) ⌝ }
     ensures { λ r. ⌜ r ≡ countedOf (now (list .entry)) room ⌝ }
 {
     if room == 0 {
         return Counted::Over;
     }
     let mut left = room - 1;
-    let mut p = point_at(list, 0);
+    let mut p = pairs::point_at(list, 0);
     let mut i = 2;
     while i < list.len() {
-        let q = point_at(list, i);
+        let q = pairs::point_at(list, i);
         let steps = span(p, q);
         if left < steps {
             return Counted::Over;
@@ -145,49 +103,21 @@ fn count(list: &[i32], room: usize) -> Counted
 
 // The path, written from the first place on.
 fn put_path(list: &[i32], out: &mut [i32])
-    requires { ⌜ Even (length (now list)) × (1 ≤ length (now list)) × (firstBad (now list) ≡ Bad.Nowhere) × (length (pathOf (now list)) ≤ length (now out)) ⌝ }
+    requires { ⌜ Even (length (now list)) × (1 ≤ length (now list)) × (firstBad (now list) ≡ Nowhere) × (length (pathOf (now list)) ≤ length (now out)) ⌝ }
     ensures { λ _. ⌜ now (out .exit) ≡ sets (now (out .entry)) 0 (pathOf (now (list .entry))) ⌝ }
 {
-    let mut p = point_at(list, 0);
-    put(out, 0, p);
+    let mut p = pairs::point_at(list, 0);
+    pairs::put(out, 0, p);
     let mut at = 2;
     let mut i = 2;
     while i < list.len() {
-        let q = point_at(list, i);
+        let q = pairs::point_at(list, i);
         let steps = span(p, q);
         put_walk(out, at, p, q, steps);
         at += 2 * steps;
         p = q;
         i += 2;
     }
-}
-
-// Whether a point is inside and free.
-fn free_at(blocked: &[u8], w: usize, h: usize, p: Point) -> bool
-    requires { ⌜ (w ≤ mostSide) × (h ≤ mostSide) × (w * h ≤ length (now blocked)) ⌝ }
-    ensures { λ r. ⌜ r ≡ freeAt w h (now (blocked .entry)) p ⌝ }
-{
-    let c = cells::cell_of(w, h, p);
-    if w * h <= c {
-        return false;
-    }
-    blocked[c] == 0
-}
-
-// Whether every waypoint after the first is inside and free.
-pub fn clear(blocked: &[u8], w: usize, h: usize, list: &[i32]) -> bool
-    requires { ⌜ (w ≤ mostSide) × (h ≤ mostSide) × (w * h ≤ length (now blocked)) × Even (length (now list)) ⌝ }
-    ensures { λ r. ⌜ r ≡ clearOf w h (now (blocked .entry)) (now (list .entry)) ⌝ }
-{
-    let mut i = 2;
-    while i < list.len() {
-        let p = point_at(list, i);
-        if !free_at(blocked, w, h, p) {
-            return false;
-        }
-        i += 2;
-    }
-    true
 }
 
 // The path that steps by sign from waypoint to waypoint; it does not look at a grid. Refuses LIST, POINT, ROOM; then nothing is written.
@@ -200,7 +130,7 @@ pub fn waypoints_to_path(list: &[i32], out: &mut [i32]) -> Written
     if list.len() % 2 == 1 {
         return Written::Refused(Refusal::List);
     }
-    let bad = bad_point(list);
+    let bad = pairs::bad_point(list);
     if let Bad::At(p) = bad {
         return Written::Refused(Refusal::BadPoint(p));
     }

@@ -1,4 +1,2 @@
-pub mod Eight
 pub mod Halves
 pub mod Signed
-pub mod Agree

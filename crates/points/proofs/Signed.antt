@@ -14,8 +14,9 @@ use mir.Facts.{toZ-ofZ, and-yes, fits-natAbs}
 use Rattle.points.specs.Plane.{inRange, legal}
 use Rattle.points.specs.declared.Point.{Point}
 use Rattle.points.specs.declared.Sign.the-variants.{Minus, Zero, Plus}
-use Rattle.points.specs.Compass.{signOf, offX, offY, dxOf, dyOf}
-use Rattle.points.proofs.Eight.{by-eight}
+use Rattle.points.specs.Compass.{signOf, dxOf, dyOf}
+use Rattle.directions.specs.Offsets.{offX, offY}
+use Rattle.directions.proofs.Eight.{by-eight}
 use Rattle.points.proofs.Halves.{up, dn, apart, abs-is, add-is, sub-law, mag-of}
 
 -- ---- bounds

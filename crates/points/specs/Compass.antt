@@ -1,27 +1,18 @@
--- Directions: the pinned offsets, turns, the two cardinals of a diagonal, and the direction between two points.
+-- Directions: steps, turns, the two cardinals of a diagonal, and the sign of a difference.
 -- Assumes nothing: these are definitions.
-use mathlib.Core.Bool.{Bool, true, false}
+use mathlib.Core.Bool.{Bool}
 use mathlib.Core.List.{List, [], _∷_}
 use Prim.Native.Nat.{ℕ, zero, suc, _+_, _-_, _%_}
+use lib.Dec.{eqb}
 use lib.IntN.{ℤ, pos, negsuc, _+ℤ_, _-ℤ_}
 use lib.ListN.{getD}
-use Rattle.points.specs.Plane.{legal}
+use Rattle.directions.specs.Offsets.{offX, offY}
 use Rattle.points.specs.declared.Point.{Point}
 use Rattle.points.specs.declared.Direction.{Direction}
 use Rattle.points.specs.declared.Sign.{Sign}
 use Rattle.points.specs.declared.Sign.the-variants.{Minus, Zero, Plus}
-use Rattle.points.specs.declared.Refusal.the-variants.{Same, BadPoint}
-use Rattle.points.specs.declared.Heading.{Heading}
-use Rattle.points.specs.declared.Heading.the-variants.{Toward, Refused}
 use Rattle.points.specs.declared.Parts.{Parts}
 use Rattle.points.specs.declared.Parts.the-variants.{Pair, Whole}
-
--- the offsets (pinned) of the directions 0 to 7, each one more than it is: 0 is (0,-1), then clockwise on a printed map
-unfoldable pub offX : ℕ → ℕ
-offX d = getD (1 ∷ 2 ∷ 2 ∷ 2 ∷ 1 ∷ 0 ∷ 0 ∷ 0 ∷ []) d 1
-
-unfoldable pub offY : ℕ → ℕ
-offY d = getD (0 ∷ 0 ∷ 1 ∷ 2 ∷ 2 ∷ 2 ∷ 1 ∷ 0 ∷ []) d 1
 
 -- the offsets of a direction number, read modulo 8
 abbrev pub dxOf : ℕ → ℤ
@@ -37,6 +28,10 @@ moved p n = record { x = p .x +ℤ dxOf n; y = p .y +ℤ dyOf n }
 -- the direction of a number
 abbrev pub dir : ℕ → Direction
 dir n = record { number = n }
+
+-- even directions are cardinal, odd ones diagonal
+abbrev pub diagonalOf : ℕ → Bool
+diagonalOf n = eqb (n % 2) 1
 
 -- turned by eighths of a turn; the opposite is 4 eighths away
 abbrev pub clockwise : Direction → ℕ → Direction
@@ -60,30 +55,3 @@ abbrev pub signOf : ℤ → Sign
 signOf (negsuc n) = Minus
 signOf (pos zero) = Zero
 signOf (pos (suc n)) = Plus
-
--- by the signs of the two differences; p is the point that SAME carries
-abbrev pub towardOf : Point → Sign → Sign → Heading
-towardOf p Minus Minus = Toward (dir 7)
-towardOf p Minus Zero = Toward (dir 6)
-towardOf p Minus Plus = Toward (dir 5)
-towardOf p Zero Minus = Toward (dir 0)
-towardOf p Zero Zero = Refused (Same p)
-towardOf p Zero Plus = Toward (dir 4)
-towardOf p Plus Minus = Toward (dir 1)
-towardOf p Plus Zero = Toward (dir 2)
-towardOf p Plus Plus = Toward (dir 3)
-
--- the direction from a to b: the sign of each coordinate difference, aligned or not
-abbrev pub headingOf : Point → Point → Heading
-headingOf a b = towardOf a (signOf (b .x -ℤ a .x)) (signOf (b .y -ℤ a .y))
-
-abbrev pub pickHeading : Bool → Heading → Heading → Heading
-pickHeading true a b = a
-pickHeading false a b = b
-
--- POINT (first, then second), then SAME
-abbrev pub directionOf : Point → Point → Heading
-directionOf a b =
-    pickHeading (legal a)
-    (pickHeading (legal b) (headingOf a b) (Refused (BadPoint b)))
-    (Refused (BadPoint a))

@@ -1,11 +1,11 @@
 // Points, directions and refusals. Signed coordinates are worked on here alone.
 ghost use mathlib.Core.Path.{_≡_};
-ghost use Prim.Native.Nat.{_≤_, _+_, _%_};
-ghost use lib.Dec.{T, eqb};
+ghost use Prim.Native.Nat.{_≤_, _<_, _+_, _%_};
+ghost use lib.Dec.{T};
 ghost use lib.IntN.{_-ℤ_, natAbs};
 ghost use Rattle.points.specs.Plane.{inRange, legal};
-ghost use Rattle.points.specs.Compass.{offX, offY, dxOf, dyOf, moved, signOf, towardOf, headingOf, directionOf, splitOf, clockwise, counterclockwise};
-ghost use Rattle.points.specs.Refusals.{toldOf};
+ghost use Rattle.points.specs.Compass.{dxOf, dyOf, moved, signOf, diagonalOf, splitOf, clockwise, counterclockwise};
+ghost use Rattle.points.specs.Refusals.{bare, pointed, lined, toldOf};
 
 // A place of the plane.
 pub struct Point {
@@ -60,40 +60,6 @@ pub enum Heading {
 pub enum Parts {
     Pair(Direction, Direction),
     Whole,
-}
-
-// The column offset of a direction, one more than it is: with off_y the one table of the pinned offsets.
-pub fn off_x(d: u8) -> usize
-    ensures { λ r. ⌜ (r ≡ offX (d % 8)) × (r ≤ 2) ⌝ }
-{
-    let n = d % 8;
-    match n {
-        0 => 1,
-        1 => 2,
-        2 => 2,
-        3 => 2,
-        4 => 1,
-        5 => 0,
-        6 => 0,
-        _ => 0,
-    }
-}
-
-// The row offset of a direction, one more than it is.
-pub fn off_y(d: u8) -> usize
-    ensures { λ r. ⌜ (r ≡ offY (d % 8)) × (r ≤ 2) ⌝ }
-{
-    let n = d % 8;
-    match n {
-        0 => 0,
-        1 => 0,
-        2 => 1,
-        3 => 2,
-        4 => 2,
-        5 => 2,
-        6 => 1,
-        _ => 0,
-    }
 }
 
 // Whether a coordinate is in -1024..=1023.
@@ -159,30 +125,40 @@ impl Direction {
     pub fn rotate_cw(self, eighths: u8) -> Direction
         ensures { λ r. ⌜ r ≡ clockwise self eighths ⌝ }
     {
-        Direction {
-            number: (self.number % 8 + eighths % 8) % 8,
+        let mut n = self.number % 8;
+        let mut left = eighths % 8;
+        while 0 < left {
+            n = directions::right_of(n);
+            left -= 1;
         }
+        Direction { number: n }
     }
 
     // Turned by eighths of a turn, counter-clockwise on a printed map.
     pub fn rotate_ccw(self, eighths: u8) -> Direction
         ensures { λ r. ⌜ r ≡ counterclockwise self eighths ⌝ }
     {
-        Direction {
-            number: (self.number % 8 + 8 - eighths % 8) % 8,
+        let mut n = self.number % 8;
+        let mut left = eighths % 8;
+        while 0 < left {
+            n = directions::left_of(n);
+            left -= 1;
         }
+        Direction { number: n }
     }
 
     // The direction half a turn away.
     pub fn opposite(self) -> Direction
         ensures { λ r. ⌜ r ≡ clockwise self 4 ⌝ }
     {
-        self.rotate_cw(4)
+        Direction {
+            number: directions::back_of(self.number),
+        }
     }
 
     // Whether the direction is a diagonal one.
     pub fn diagonal(self) -> bool
-        ensures { λ r. ⌜ r ≡ eqb (self .number % 2) 1 ⌝ }
+        ensures { λ r. ⌜ r ≡ diagonalOf (self .number) ⌝ }
     {
         self.number % 2 == 1
     }
@@ -190,13 +166,13 @@ impl Direction {
     pub fn dx(self) -> i32
         ensures { λ r. ⌜ r ≡ dxOf (self .number) ⌝ }
     {
-        off_x(self.number) as i32 - 1
+        directions::off_x(self.number) as i32 - 1
     }
 
     pub fn dy(self) -> i32
         ensures { λ r. ⌜ r ≡ dyOf (self .number) ⌝ }
     {
-        off_y(self.number) as i32 - 1
+        directions::off_y(self.number) as i32 - 1
     }
 
     // A diagonal's two cardinals; a cardinal splits into nothing.
@@ -214,129 +190,74 @@ impl Direction {
     }
 }
 
-impl Refusal {
-    // The refusal's number in the scope's table, with the values that it carries.
-    pub fn told(self) -> Told
-        ensures { λ r. ⌜ r ≡ toldOf self ⌝ }
+impl Told {
+    // A number alone.
+    fn bare(number: u8) -> Told
+        ensures { λ r. ⌜ r ≡ bare number ⌝ }
     {
-        let none = Point { x: 0, y: 0 };
-        match self {
-            Refusal::Size => Told {
-                number: 1,
-                line: 0,
-                point: none,
-            },
-            Refusal::State => Told {
-                number: 2,
-                line: 0,
-                point: none,
-            },
-            Refusal::Setting => Told {
-                number: 3,
-                line: 0,
-                point: none,
-            },
-            Refusal::NoRoute => Told {
-                number: 4,
-                line: 0,
-                point: none,
-            },
-            Refusal::Goals => Told {
-                number: 5,
-                line: 0,
-                point: none,
-            },
-            Refusal::Exhausted => Told {
-                number: 6,
-                line: 0,
-                point: none,
-            },
-            Refusal::Depth => Told {
-                number: 7,
-                line: 0,
-                point: none,
-            },
-            Refusal::Fringe => Told {
-                number: 8,
-                line: 0,
-                point: none,
-            },
-            Refusal::Pops => Told {
-                number: 9,
-                line: 0,
-                point: none,
-            },
-            Refusal::Room => Told {
-                number: 10,
-                line: 0,
-                point: none,
-            },
-            Refusal::Same(p) => Told {
-                number: 11,
-                line: 0,
-                point: p,
-            },
-            Refusal::Map(n) => Told {
-                number: 12,
-                line: n,
-                point: none,
-            },
-            Refusal::List => Told {
-                number: 13,
-                line: 0,
-                point: none,
-            },
-            Refusal::BadPoint(p) => Told {
-                number: 14,
-                line: 0,
-                point: p,
-            },
+        Told {
+            number,
+            line: 0,
+            point: Point { x: 0, y: 0 },
+        }
+    }
+
+    // A number with the point concerned.
+    fn pointed(number: u8, point: Point) -> Told
+        ensures { λ r. ⌜ r ≡ pointed number point ⌝ }
+    {
+        Told {
+            number,
+            line: 0,
+            point,
+        }
+    }
+
+    // A number with a line.
+    fn lined(number: u8, line: usize) -> Told
+        ensures { λ r. ⌜ r ≡ lined number line ⌝ }
+    {
+        Told {
+            number,
+            line,
+            point: Point { x: 0, y: 0 },
         }
     }
 }
 
-// The direction that two signs give; p is the point that SAME carries.
-fn toward(p: Point, sx: Sign, sy: Sign) -> Heading
-    ensures { λ r. ⌜ r ≡ towardOf p sx sy ⌝ }
-{
-    match sx {
-        Sign::Minus => match sy {
-            Sign::Minus => Heading::Toward(Direction { number: 7 }),
-            Sign::Zero => Heading::Toward(Direction { number: 6 }),
-            Sign::Plus => Heading::Toward(Direction { number: 5 }),
-        },
-        Sign::Zero => match sy {
-            Sign::Minus => Heading::Toward(Direction { number: 0 }),
-            Sign::Zero => Heading::Refused(Refusal::Same(p)),
-            Sign::Plus => Heading::Toward(Direction { number: 4 }),
-        },
-        Sign::Plus => match sy {
-            Sign::Minus => Heading::Toward(Direction { number: 1 }),
-            Sign::Zero => Heading::Toward(Direction { number: 2 }),
-            Sign::Plus => Heading::Toward(Direction { number: 3 }),
-        },
+impl Refusal {
+    // The refusal's number in the scope's table.
+    fn number(self) -> u8
+        ensures { λ r. ⌜ r ≡ toldOf self .number ⌝ }
+    {
+        match self {
+            Refusal::Size => 1,
+            Refusal::State => 2,
+            Refusal::Setting => 3,
+            Refusal::NoRoute => 4,
+            Refusal::Goals => 5,
+            Refusal::Exhausted => 6,
+            Refusal::Depth => 7,
+            Refusal::Fringe => 8,
+            Refusal::Pops => 9,
+            Refusal::Room => 10,
+            Refusal::Same(_) => 11,
+            Refusal::Map(_) => 12,
+            Refusal::List => 13,
+            Refusal::BadPoint(_) => 14,
+        }
     }
-}
 
-// The direction from a to b, for points that are known to be in range. Refuses SAME.
-pub fn direction_between(a: Point, b: Point) -> Heading
-    requires { ⌜ T (legal a) × T (legal b) ⌝ }
-    ensures { λ r. ⌜ r ≡ headingOf a b ⌝ }
-{
-    let sx = sign_between(a.x, b.x);
-    let sy = sign_between(a.y, b.y);
-    toward(a, sx, sy)
-}
-
-// The direction from a to b by the sign of each coordinate difference, aligned or not. Refuses POINT (a, then b), then SAME.
-pub fn direction_to(a: Point, b: Point) -> Heading
-    ensures { λ r. ⌜ r ≡ directionOf a b ⌝ }
-{
-    if !a.legal() {
-        return Heading::Refused(Refusal::BadPoint(a));
+    // The refusal's number, with the values that it carries.
+    pub fn told(self) -> Told
+        ensures { λ r. ⌜ r ≡ toldOf self ⌝ }
+    {
+        let number = self.number();
+        match self {
+            Refusal::Same(p) => Told::pointed(number, p),
+            Refusal::Map(n) => Told::lined(number, n),
+            Refusal::BadPoint(p) => Told::pointed(number, p),
+            _ => Told::bare(number),
+        }
     }
-    if !b.legal() {
-        return Heading::Refused(Refusal::BadPoint(b));
-    }
-    direction_between(a, b)
 }

@@ -10,7 +10,7 @@ use lib.Dec.{eqb}
 use borrow.Author.Tests.{lt-ltb, le-ltb, le-leb, lt-leb, eq-eqb}
 use Rattle.components.specs.Components.{rootOf}
 use Rattle.cells.specs.Cells.{cellTo}
-use Rattle.tables.specs.Tables.{around}
+use Rattle.joins.specs.Joins.{around}
 use Rattle.questions.specs.Questions.{rootedOf, reachableOf, nearAlong, nearOf, neighboursReachableOf, neighboursUnreachableOf}
 
 pub rooted-out : (n : ℕ) (p : List ℕ) (r c : ℕ) → n ≤ c → false ≡ rootedOf n p r c

@@ -6,7 +6,7 @@ use Prim.Native.Nat.{ℕ, _*_, _/_, _%_}
 use lib.Dec.{ltb, leb, eqb}
 use Rattle.components.specs.Components.{rootOf}
 use Rattle.cells.specs.Cells.{cellTo}
-use Rattle.tables.specs.Tables.{around}
+use Rattle.joins.specs.Joins.{around}
 
 -- c is one of the n cells, and its root is r
 unfoldable pub rootedOf : ℕ → List ℕ → ℕ → ℕ → Bool

@@ -3,8 +3,8 @@ ghost use mathlib.Core.Path.{_≡_};
 ghost use mathlib.Core.Bool.{not};
 ghost use Prim.Native.Nat.{_*_, _<_};
 ghost use Rattle.components.specs.Components.{Forest};
-ghost use Rattle.cells.specs.Cells.{Within};
-ghost use Rattle.tables.specs.Tables.{Sides, Ways};
+ghost use Rattle.cells.specs.Cells.{Within, Sides};
+ghost use Rattle.joins.specs.Joins.{Ways};
 ghost use Rattle.questions.specs.Questions.{rootedOf, reachableOf, nearAlong, nearOf, neighboursReachableOf, neighboursUnreachableOf};
 
 // Whether c is a cell whose root is r.

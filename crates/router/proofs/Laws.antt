@@ -1,6 +1,6 @@
 -- What the writer asks of the other parts: few pops, few waypoints, legal points, a low line. Assumes nothing.
 use mathlib.Core.Path.{_≡_, refl, sym, ap, _∙_, subst}
-use mathlib.Core.Bool.{Bool, true, false, cond, _&&_, true≢false}
+use mathlib.Core.Bool.{Bool, true, false, cond, true≢false}
 use mathlib.Core.List.{List, [], _∷_}
 use Prim.Native.Nat.{ℕ, zero, suc, _+_, _*_, _/_, _%_, _≤_, _<_}
 use native.Mathlib.Omega.{arith}
@@ -21,34 +21,36 @@ use Rattle.expansion.specs.Start.{yieldOf}
 use Rattle.search.specs.Loop.{searchFor, goalOf}
 use Rattle.trails.specs.Trail.{wroteOf}
 use Rattle.cells.specs.Cells.{mostSide, cellOf}
+use Rattle.plans.specs.Plans.{readyOf, barredOf}
 use Rattle.finder.specs.Find as F
-use Rattle.finder.specs.Find.{answerOf, toldOf as wroteTold, readyOf, barredOf, startedOf, startedIn, routeIn, pairOf, tablesOf}
+use Rattle.finder.specs.Find.{answerOf, toldOf as wroteTold, startedOf, startedIn, routeIn, pairOf, tablesOf}
 use Rattle.waypoints.specs.Waypoints as W
 use Rattle.waypoints.specs.Waypoints.{groundOf}
 use Rattle.grid.specs.Grids.{legalOf}
 use Rattle.grid.specs.declared.Grid.{Grid}
-use Rattle.grid.specs.declared.Outcome.{Outcome as Change}
 use Rattle.grid.specs.declared.Outcome.the-variants.{Done, Refused as RefusedMap}
 use Rattle.grid.specs.declared.Verdict.{Verdict}
 use Rattle.grid.specs.declared.Verdict.the-variants.{Yes, No, Refused as RefusedCheck}
-use Rattle.paths.specs.Walks.{Even, firstBad, clearOf}
-use Rattle.paths.specs.declared.Bad.{Bad as BadPoints}
-use Rattle.paths.specs.declared.Bad.the-variants.{At, Nowhere}
+use Rattle.pairs.specs.Pairs.{Even, firstBad}
+use Rattle.pairs.specs.declared.Bad.{Bad as BadPoints}
+use Rattle.pairs.specs.declared.Bad.the-variants.{At, Nowhere}
 use Rattle.text.specs.declared.Num.{Num}
 use Rattle.text.specs.declared.Num.the-variants.{Whole, Wrong}
 use Rattle.text.specs.declared.Pair.{Pair}
 use Rattle.text.specs.declared.Pair.the-variants.{Both, Neither}
-use Rattle.text.specs.Grammar.{pointLine}
-use Rattle.maps.specs.Maps.{sizeLine, flagLine, widthWord, heightWord, diagonalWord, startWord, goalWord, afterWidth, afterHeight, afterDiagonal, afterStart, afterGoal, headOf, rowOk, rowsOf, withRows, withHead, mostText, mapOf, cellsInto}
+use Rattle.lines.specs.Lines.{pointLine}
+use Rattle.rows.specs.Rows.{rowOk, rowsOf}
+use Rattle.rows.specs.declared.Rows.{Rows}
+use Rattle.rows.specs.declared.Rows.the-variants.{Good, Bad as BadRow}
+use Rattle.maps.specs.Maps.{sizeLine, flagLine, widthWord, heightWord, diagonalWord, startWord, goalWord, afterWidth, afterHeight, afterDiagonal, afterStart, afterGoal, headOf, withRows, withHead, mostText, mapOf, cellsInto}
 use Rattle.maps.specs.declared.Header.{Header}
 use Rattle.maps.specs.declared.Head.{Head}
 use Rattle.maps.specs.declared.Head.the-variants.{Of, Bad as BadHead}
-use Rattle.maps.specs.declared.Rows.{Rows}
-use Rattle.maps.specs.declared.Rows.the-variants.{Good, Bad as BadRow}
 use Rattle.maps.specs.declared.Reading.{Reading}
 use Rattle.maps.specs.declared.Reading.the-variants.{Map, Bad}
 use Rattle.maps.proofs.Laws.{HBounded, head-fair, side-most}
-use Rattle.floors.specs.Floors.{readAs, readOf, judged, checkIn, checkOf}
+use Rattle.checks.specs.Checks.{clearOf, judged, checkIn}
+use Rattle.floors.specs.Floors.{readAs, readOf, checkOf}
 use lib.Seq.{sets}
 use Rattle.answers.specs.Answers.{badText}
 use Rattle.grid.specs.Grids.{rebuildOutcome}

@@ -1,5 +1,5 @@
 -- What is printed is short enough for its room. Assumes nothing.
-use mathlib.Core.Path.{_≡_, refl, sym, ap, _∙_}
+use mathlib.Core.Path.{_≡_, refl, ap}
 use mathlib.Core.Bool.{Bool, true, false, cond}
 use mathlib.Core.List.{List, [], _∷_, _++_}
 use Prim.Native.Nat.{ℕ, _+_, _*_, _/_, _≤_}
@@ -9,7 +9,6 @@ use lib.IntN.{ℤ}
 use lib.ListN.{length, take, length-append, length-take}
 use lib.Seq.{sets, length-sets}
 use Rattle.points.specs.Refusals.{toldOf}
-use Rattle.points.specs.declared.Refusal.{Refusal}
 use Rattle.goals.specs.declared.Plan.{Plan}
 use Rattle.offers.specs.Search.{Reply, found, refused}
 use Rattle.trails.specs.Trail.{leftIn, pairs}
@@ -23,13 +22,13 @@ use Rattle.grid.specs.declared.Outcome.{Outcome as Change}
 use Rattle.grid.specs.declared.Outcome.the-variants.{Done, Refused as RefusedMap}
 use Rattle.grid.specs.declared.Verdict.{Verdict}
 use Rattle.grid.specs.declared.Verdict.the-variants.{Yes, No, Refused as RefusedCheck}
-use Rattle.text.specs.Render.{numberText, pointText}
-use Rattle.text.proofs.Written.{number-text-length, point-text-length}
-use Rattle.paths.specs.Walks.{point}
+use Rattle.printing.specs.Render.{numberText, pointText}
+use Rattle.printing.proofs.Written.{number-text-length, point-text-length}
+use Rattle.pairs.specs.Pairs.{point}
 use Rattle.answers.specs.Answers.{resultWord, popsWord, waypointsWord, clearWord, pointWord, lineWord, pointsText, answerText, badText}
 use Rattle.floors.specs.Floors.{readOf, checkOf}
 use Rattle.floors.specs.declared.MapRead.{MapRead}
-use Rattle.router.specs.Route.{settingsFor, exactOf, refusedText, checkedText, foundText, outcomeText, blank, searchText, mapTold, routeText, mostPrint}
+use Rattle.router.specs.Route.{settingsFor, exactOf, checkedText, foundText, blank, mapTold, routeText, mostPrint}
 
 points-short : (l : List ℤ) → length (pointsText l) ≤ 10 * length l
 unfolding pointsText

@@ -11,7 +11,7 @@ use Rattle.costs.specs.declared.Settings.{Settings}
 use Rattle.costs.specs.Limits.{newSettings}
 use Rattle.offers.specs.Search.{Reply}
 use Rattle.finder.specs.Find.{answerOf, outAfter}
-use Rattle.finder.specs.declared.Lengths.{Lengths}
+use Rattle.plans.specs.declared.Lengths.{Lengths}
 use Rattle.finder.specs.declared.Answer.{Answer}
 use Rattle.finder.specs.declared.Outcome.{Outcome}
 use Rattle.finder.specs.declared.Outcome.the-variants.{Found, Refused}

@@ -10,9 +10,8 @@ use Rattle.goals.specs.declared.Plan.{Plan}
 use Rattle.goals.specs.Goals.{mostSide}
 use Rattle.nodes.specs.Bound.{times, edgeOf}
 use Rattle.nodes.proofs.History.{times-is, base-bound}
-use Rattle.offers.specs.Search.{State, Keeps, Ended, found, mostPlaces, areaOf, searchOf}
-use Rattle.offers.proofs.Good.{run-ended}
-use Rattle.offers.proofs.Start.{begin-good}
+use Rattle.offers.specs.Search.{State, Keeps, Ended, found, mostPlaces, areaOf}
+use Rattle.offers.proofs.Passed.{found-ended}
 use Rattle.offers.proofs.Laws.{area-low}
 use Rattle.expansion.specs.Expand.{Tables}
 use Rattle.expansion.specs.Start.{yieldOf}
@@ -37,8 +36,7 @@ yields-good t p l = yield-keeps t p (areaOf p + 1) mostSide (l .aimed) (l .sides
 -- a search that found a goal leaves a good state, in which the goal is a node, popped at a cost that is bounded
 pub search-ended : (t : Tables) (p : Plan) (start : ℕ) → Legal (t .goals) p → start ≤ areaOf p → (i k n : ℕ) (s : State) → found i k n s ≡ searchFor t p start
     → Ended (areaOf p + 1) (p .settings .fringe) (edgeIn p) (areaOf p) i k s
-unfolding searchOf searchFor
+unfolding searchFor
 search-ended t p start l h i k n s e =
     let h′ : start < areaOf p + 1 = omega arith in
-    run-ended (areaOf p + 1) (p .settings .fringe) (edgeIn p) (areaOf p) (yieldOf t p) (goalOf (t .goals) p) (yields-good t p l) i k n s
-    (p .settings .pops) 0 _ (begin-good (p .settings .fringe) (edgeIn p) (areaOf p) (areaOf p + 1) start (l .fringe) h′) e
+    found-ended (yieldOf t p) (goalOf (t .goals) p) (areaOf p + 1) start (p .settings .fringe) (edgeIn p) (areaOf p) (yields-good t p l) (l .fringe) h′ (p .settings .pops) i k n s e

@@ -1,57 +1,34 @@
--- The start, a pop, and the turns of the search's loop over lent slices. Assumes nothing.
+-- A pop, and the turns of the search's loop over lent slices. Assumes nothing.
 use mathlib.Core.Path.{_≡_, refl, ap, sym, _∙_, subst}
 use mathlib.Core.Bool.{Bool, true, false}
-use mathlib.Core.List.{List, []}
+use mathlib.Core.List.{List}
 use Prim.Native.Nat.{ℕ, _+_, _-_, _^_, _<_, _≤_}
 use native.Mathlib.Omega.{arith}
 use lib.IntN.{ℤ}
-use lib.ListN.{length, getD, take, replicate, length-replicate}
+use lib.ListN.{length, getD, take}
 use lib.Seq.{getD-take}
 use Rattle.points.specs.declared.Refusal.{Refusal}
 use Rattle.points.specs.declared.Refusal.the-variants.{Exhausted, Pops}
 use Rattle.goals.specs.declared.Plan.{Plan}
-use Rattle.fringe.specs.declared.Entry.{Entry}
-use Rattle.fringe.specs.Fringe.{entry, entries, push, top, rest}
-use Rattle.fringe.specs.Keys.{keyOf, costOf}
-use Rattle.nodes.specs.Nodes.{Nodes, Note, Able, nodes, noteOf}
+use Rattle.sifts.specs.declared.Entry.{Entry}
+use Rattle.sifts.specs.Sifts.{entries}
+use Rattle.fringe.specs.Fringe.{top, rest}
+use Rattle.keys.specs.Keys.{costOf}
+use Rattle.nodes.specs.Nodes.{nodes}
 use Rattle.offers.specs.declared.Mark.{Mark}
-use Rattle.offers.specs.Search.{State, state, view, Out, Expansion, Sides, areaOf, popped, visitOf, hit, on, halt, toTurn, turnOf, run, found, refused, none, begin, searchOf, Fit, Lent}
-use Rattle.offers.proofs.Laws.{area-low, count-le}
+use Rattle.offers.specs.Search.{State, view, Out, Expansion, areaOf, popped, visitOf, hit, on, halt, toTurn, turnOf, run, found, refused, begin, searchOf, Fit, Lent}
+use Rattle.offers.proofs.Laws.{count-le}
 use Rattle.offers.proofs.Good.{good-popped, turn-next, lent-next}
-use Rattle.offers.proofs.Start.{begin-good, zeros}
+use Rattle.offers.proofs.Start.{begin-good}
 use Rattle.offers.proofs.Loop.{turn-hit, turn-go, run-empty, run-spent, run-hit, run-on, run-halt}
 use Rattle.offers.proofs.Rounds.{Sizes}
+use Rattle.rooms.specs.Rooms.{Room}
 use Rattle.expansion.specs.Expand.{Tables, Backed}
 use Rattle.expansion.specs.Start.{yieldOf}
 use Rattle.search.specs.declared.Turn.{Turn}
 use Rattle.search.specs.declared.Turn.the-variants.{Hit, On, Halt}
-use Rattle.search.specs.Loop.{Legal, Room, GoodIn, edgeIn, goalOf, searchFor, turnAs}
+use Rattle.search.specs.Loop.{Legal, GoodIn, edgeIn, goalOf, searchFor, turnAs}
 use Rattle.search.proofs.Laws.{edge-low, edges-low, yields-good}
-
--- ---- the start
-
-pub nodes-none : (n : ℕ) (number place parent cost : List ℕ) → number ≡ replicate n 0 → nodes number place parent cost 0 ≡ none n
-unfolding none
-nodes-none n number place parent cost e = rw e
-
-pub able-start : (p : Plan) (number place parent cost keys idx number′ : List ℕ) (start : ℕ) → Room p number place parent cost keys idx → Sides p → start ≤ areaOf p → number′ ≡ replicate (length number) 0 → Able number′ place parent cost 0 start 0
-able-start p number place parent cost keys idx number′ start a s h e =
-    let l : length number′ ≡ length number = ap length e ∙ length-replicate (length number) 0 in
-    record {
-      cell-in = omega (arith, a .floor);
-      known = omega (arith, ap (λ (x : List ℕ). getD x start 0) e, zeros (length number) start);
-      spare = λ z. omega (arith, a .floor);
-      place-long = omega (arith, a .place-long);
-      parent-long = omega (arith, a .parent-long);
-      cost-long = omega (arith, a .cost-long);
-      counted = omega arith;
-      small = omega (arith, a .floor, area-low p s);
-      from-small = omega arith;
-    }
-
-pub begun : (n start key : ℕ) (r : Note) (z : Nodes) (l : List Entry) → r ≡ noteOf start 0 0 z → z ≡ none n → l ≡ push [] (entry key 0) → key ≡ keyOf 0 0 → state (r .nodes) l 1 ≡ begin n start
-unfolding begin
-begun n start key r z l e q w k = rw (e, q, w, k)
 
 -- ---- a pop
 

@@ -1,12 +1,10 @@
--- The search of a plan: what it expands, what it tests, and what its code asks of the plan and of the lent room.
+-- The search of a plan: what it expands, what it tests, and what its code asks of the plan.
 -- Assumes nothing.
-use mathlib.Core.Path.{_≡_}
 use mathlib.Core.Bool.{Bool}
 use mathlib.Core.List.{List}
 use Prim.Native.Nat.{ℕ, _+_, _≤_}
 use lib.Dec.{T}
 use lib.IntN.{ℤ}
-use lib.ListN.{length}
 use Rattle.points.specs.Plane.{legal}
 use Rattle.costs.specs.Limits.{mostDepth, mostPops}
 use Rattle.goals.specs.declared.Plan.{Plan}
@@ -14,7 +12,7 @@ use Rattle.goals.specs.Goals.{mostSide, goalAt, Aimed}
 use Rattle.offers.specs.Search as S
 use Rattle.offers.specs.Search.{State, view, Good, Sides, areaOf, placePoint, searchOf}
 use Rattle.nodes.specs.Bound.{edgeOf}
-use Rattle.jumps.specs.Floor.{Marked}
+use Rattle.stops.specs.Stops.{Marked}
 use Rattle.expansion.specs.Expand.{Tables}
 use Rattle.expansion.specs.Start.{yieldOf}
 use Rattle.search.specs.declared.Turn.{Turn}
@@ -57,12 +55,3 @@ pub record Legal (goals : List ℤ) (p : Plan) : Type 0 where
   pub depth : p .settings .depth ≤ mostDepth
   pub pops : p .settings .pops ≤ mostPops
   pub fringe : 1 ≤ p .settings .fringe
-
--- working room for the cells and one more, and for the fringe limit
-pub record Room (p : Plan) (number place parent cost keys idx : List ℕ) : Type 0 where
-  pub floor : length number ≡ areaOf p + 1
-  pub place-long : length number ≤ length place
-  pub parent-long : length number ≤ length parent
-  pub cost-long : length number ≤ length cost
-  pub keys-long : p .settings .fringe ≤ length keys
-  pub idx-long : p .settings .fringe ≤ length idx

@@ -7,13 +7,13 @@ use points::Refusal;
 ghost use mathlib.Core.Path.{_≡_};
 ghost use Prim.Native.Nat.{_+_, _^_, _<_, _≤_};
 ghost use lib.Dec.{T};
-ghost use lib.ListN.{length, replicate};
 ghost use Rattle.points.specs.Plane.{legal};
 ghost use Rattle.fringe.specs.Fringe.{top};
-ghost use Rattle.offers.specs.Search.{Lent, Sides, areaOf, outOf, view, visitOf, turnOf, popped, begin};
+ghost use Rattle.offers.specs.Search.{Lent, areaOf, outOf, view, visitOf, turnOf, popped};
+ghost use Rattle.rooms.specs.Rooms.{Room};
 ghost use Rattle.expansion.specs.Expand.{tables, Floors, Backed};
 ghost use Rattle.expansion.specs.Start.{yieldOf};
-ghost use Rattle.search.specs.Loop.{edgeIn, Legal, Room, GoodIn, goalOf, searchFor, turnAs, replyOf};
+ghost use Rattle.search.specs.Loop.{edgeIn, Legal, GoodIn, goalOf, searchFor, turnAs, replyOf};
 
 // What one pop comes to: a popped goal with its cost, sizes to go on from, or a refusal.
 pub enum Turn {
@@ -78,7 +78,7 @@ fn at_goal(goals: &[i32], p: Plan, place: usize) -> bool
     ensures { λ r. ⌜ r ≡ goalOf (now (goals .entry)) p place ⌝ }
 {
     if place < p.h * p.w {
-        return jumps::hits(goals, p, place);
+        return stops::hits(goals, p, place);
     }
     goals::is_goal(goals, p, p.start)
 }
@@ -109,7 +109,7 @@ fn pop_one(
         heap: heap - 1,
     };
     let at = e.index as usize;
-    let k = fringe::keys::cost_of(e.key);
+    let k = keys::cost_of(e.key);
     if at_goal(goals, p, place[at] as usize) {
         return Turn::Hit(at, k, left);
     }
@@ -137,42 +137,6 @@ fn pop_one(
     }
 }
 
-// No cell has a number.
-fn clear(number: &mut [u32])
-    ensures { λ r. ⌜ now (number .exit) ≡ replicate (length (now (number .entry))) 0 ⌝ }
-{
-    let n = number.len();
-    let mut i = 0;
-    while i < n {
-        number[i] = 0;
-        i += 1;
-    }
-}
-
-// The start's place is the only node, and has estimate 0.
-fn start_at(
-    number: &mut [u32],
-    place: &mut [u32],
-    parent: &mut [u32],
-    cost: &mut [u64],
-    keys: &mut [u64],
-    idx: &mut [u32],
-    p: Plan,
-    start: usize,
-) -> Mark
-    requires { ⌜ Room p (now number) (now place) (now parent) (now cost) (now keys) (now idx) × (Sides p × ((1 ≤ p .settings .fringe) × (start ≤ areaOf p))) ⌝ }
-    ensures { λ r. ⌜ view (now (number .exit)) (now (place .exit)) (now (parent .exit)) (now (cost .exit)) (now (keys .exit)) (now (idx .exit)) r ≡ begin (areaOf p + 1) start ⌝ }
-{
-    clear(number);
-    let r = nodes::note(number, place, parent, cost, 0, start, 0, 0);
-    let key = fringe::keys::key_of(0, 0);
-    fringe::push(keys, idx, 0, key, 0);
-    Mark {
-        count: r.count,
-        heap: 1,
-    }
-}
-
 // Searches from the start's place until a goal is popped, or refuses. No answer depends on what the room held.
 pub fn search(
     blocked: &[u8],
@@ -191,7 +155,7 @@ pub fn search(
     requires { ⌜ Room p (now number) (now place) (now parent) (now cost) (now keys) (now idx) × (Legal (now goals) p × (Floors (tables (now blocked) (now neighbours) (now forced) (now goals)) p × (start ≤ areaOf p))) ⌝ }
     ensures { λ r. ⌜ replyOf r (now (number .exit)) (now (place .exit)) (now (parent .exit)) (now (cost .exit)) (now (keys .exit)) (now (idx .exit)) ≡ searchFor (tables (now (blocked .entry)) (now (neighbours .entry)) (now (forced .entry)) (now (goals .entry))) p start ⌝ }
 {
-    let mut m = start_at(number, place, parent, cost, keys, idx, p, start);
+    let mut m = rooms::start_at(number, place, parent, cost, keys, idx, p, start);
     let limit = p.settings.pops;
     let mut pops = 0;
     while 0 < m.heap {

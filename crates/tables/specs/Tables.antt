@@ -1,12 +1,14 @@
 -- The tables of a grid, and what the calls that change them make of them: new, an edit, a rebuild, an update.
 -- w and h, the sides, are parameters. A cell (x, y) has the number y * w + x. Assumes nothing.
-use mathlib.Core.Bool.{Bool, true, false, not, cond, _&&_, _||_}
-use mathlib.Core.List.{List, [], _∷_}
-use Prim.Native.Nat.{ℕ, zero, suc, _+_, _*_, _≤_, _<_}
+use mathlib.Core.Bool.{Bool, false, not, cond, _||_}
+use mathlib.Core.List.{List}
+use Prim.Native.Nat.{ℕ, zero, suc, _+_, _*_, _≤_}
 use lib.ListN.{length, getD, set}
-use lib.Dec.{eqb, ltb}
-use Rattle.components.specs.Components.{Links, united}
-use Rattle.cells.specs.Cells.{mostSide, cellTo, masksAfter, forcedAfter, newBlocked, newMasks, newForced, newParent}
+use lib.Dec.{eqb}
+use Rattle.components.specs.Components.{Links}
+use Rattle.fills.specs.Fills.{newBlocked, newMasks, newForced, newParent}
+use Rattle.refresh.specs.Refresh.{blocks, masksAfter, forcedAfter}
+use Rattle.joins.specs.Joins.{around, ahead, joinedTo}
 
 -- the tables of a grid: which cells are blocked (0 is free), the neighbour masks, the forced masks, the union-find's parents and ranks, and the mark
 pub record Tables : Type 0 where
@@ -20,29 +22,6 @@ pub record Tables : Type 0 where
 -- what the components of a grid are made of
 abbrev pub linksOf : Tables → Links
 linksOf t = record { parent = t .parent; rank = t .rank }
-
--- the directions in which an edit joins a cell: the neighbourhood, in its order
-unfoldable pub around : Bool → List ℕ
-around true = 0 ∷ 1 ∷ 2 ∷ 3 ∷ 4 ∷ 5 ∷ 6 ∷ 7 ∷ []
-around false = 0 ∷ 2 ∷ 4 ∷ 6 ∷ []
-
--- the directions in which a rebuild joins a cell: (x,y+1), (x,y-1), (x+1,y), and with diagonals (x+1,y-1), (x+1,y) again, (x+1,y+1)
-unfoldable pub ahead : Bool → List ℕ
-ahead true = 4 ∷ 0 ∷ 2 ∷ 1 ∷ 2 ∷ 3 ∷ []
-ahead false = 4 ∷ 0 ∷ 2 ∷ []
-
--- cell i is joined with cell c where c is one of the n cells, and free
-unfoldable pub joinCell : ℕ → List ℕ → ℕ → ℕ → Links → Links
-joinCell n blocked i c u = cond (ltb c n) (cond (eqb (getD blocked c 0) 0) (united (u .parent) (u .rank) i c) u) u
-
--- the cell (x, y) is joined with its free neighbours in the directions ds, in order
-unfoldable pub joinedTo : ℕ → ℕ → List ℕ → ℕ → ℕ → List ℕ → Links → Links
-joinedTo w h blocked x y [] u = u
-joinedTo w h blocked x y (d ∷ ds) u = joinedTo w h blocked x y ds (joinCell (w * h) blocked (y * w + x) (cellTo w h x y d) u)
-
--- an edit blocks a free cell
-abbrev pub blocks : ℕ → List ℕ → ℕ → ℕ → Bool → Bool
-blocks w blocked x y b = b && eqb (getD blocked (y * w + x) 0) 0
 
 -- `set`: a free cell that becomes blocked marks dirty and joins nothing; every other edit joins the cell with its free neighbours. Then the masks and the cell
 unfoldable pub editOf : ℕ → ℕ → Bool → Tables → ℕ → ℕ → Bool → Tables
@@ -107,12 +86,6 @@ newOf w h t = record {
 abbrev pub mostRank : ℕ
 mostRank = 12
 
--- sides in range
-pub record Sides (w h : ℕ) : Type 0 where
-  pub some : 0 < w
-  pub wide : w ≤ mostSide
-  pub high : h ≤ mostSide
-
 -- every table has a place for each cell
 pub record Room (w h : ℕ) (t : Tables) : Type 0 where
   pub blocked : w * h ≤ length (t .blocked)
@@ -120,8 +93,3 @@ pub record Room (w h : ℕ) (t : Tables) : Type 0 where
   pub forced : w * h ≤ length (t .forced)
   pub parent : w * h ≤ length (t .parent)
   pub rank : w * h ≤ length (t .rank)
-
--- a list of directions
-pub record Ways (l : List ℕ) : Type 0 where
-  pub few : length l ≤ 8
-  pub each : (k : ℕ) → k < length l → getD l k 0 < 8

@@ -1,12 +1,11 @@
 // The tables of a grid over lent slices: a new one, an edit, a rebuild, an update. The state is legal where it is asked for, and is not tested.
 ghost use mathlib.Core.Path.{_≡_};
-ghost use mathlib.Core.Bool.{false, cond, _&&_};
-ghost use Prim.Native.Nat.{_*_, _^_, _≤_, _<_};
-ghost use lib.ListN.{length, getD};
+ghost use mathlib.Core.Bool.{false, cond};
+ghost use Prim.Native.Nat.{_*_, _≤_, _<_};
+ghost use lib.ListN.{length};
 ghost use Rattle.components.specs.Components.{Forest, Light};
-ghost use Rattle.cells.specs.Cells.{Within};
-ghost use lib.Dec.{eqb};
-ghost use Rattle.tables.specs.Tables.{Sides, Room, Ways, mostRank, around, ahead, joinCell, joinedTo, cellJoined, columnTo, rebuiltLinks, newOf, editOf};
+ghost use Rattle.cells.specs.Cells.{Sides, Within};
+ghost use Rattle.tables.specs.Tables.{Room, mostRank, cellJoined, columnTo, rebuiltLinks, newOf, editOf};
 
 // A new grid: all free, its masks, singletons.
 pub fn new(
@@ -23,94 +22,11 @@ pub fn new(
         ≡ newOf w h (record { blocked = now (blocked .entry); masks = now (neighbours .entry); forced = now (forced .entry); parent = now (parent .entry); rank = now (rank .entry); dirty = false }) ⌝ }
 {
     let n = w * h;
-    cells::fill_zero(blocked, n);
-    cells::fill_masks(w, h, blocked, neighbours, n);
-    cells::fill_forced(neighbours, forced, n);
-    cells::fill_ident(parent, n);
-    cells::fill_zero(rank, n);
-}
-
-// Cell i is joined with cell c, where c is a cell and free.
-fn join_cell(n: usize, blocked: &[u8], parent: &mut [u16], rank: &mut [u8], i: usize, c: usize)
-    requires { ⌜ Forest 254 n (now parent) (now rank) × (n ≤ 2 ^ 16) × (i < n) × (n ≤ length (now blocked)) ⌝ }
-    ensures { λ _. ⌜ record { parent = now (parent .exit); rank = now (rank .exit) } ≡ joinCell n (now (blocked .entry)) i c (record { parent = now (parent .entry); rank = now (rank .entry) }) ⌝ }
-{
-    if c < n {
-        if blocked[c] == 0 {
-            components::union(parent, rank, n, i, c);
-        }
-    }
-}
-
-// The cell (x, y) is joined with its free neighbours in the directions ds, in order.
-pub fn join_along(
-    w: usize,
-    h: usize,
-    blocked: &[u8],
-    parent: &mut [u16],
-    rank: &mut [u8],
-    x: usize,
-    y: usize,
-    ds: &[u8],
-)
-    requires { ⌜ Within w h x y × Ways (now ds) × (w * h ≤ length (now blocked)) × Forest 200 (w * h) (now parent) (now rank) ⌝ }
-    ensures { λ _. ⌜ record { parent = now (parent .exit); rank = now (rank .exit) } ≡ joinedTo w h (now (blocked .entry)) x y (now (ds .entry)) (record { parent = now (parent .entry); rank = now (rank .entry) }) ⌝ }
-{
-    let n = w * h;
-    let i = y * w + x;
-    let mut k: usize = 0;
-    while k < ds.len() {
-        let d = ds[k];
-        let c = cells::cell_to(w, h, x, y, d);
-        join_cell(n, blocked, parent, rank, i, c);
-        k += 1;
-    }
-}
-
-// An edit's joins: with each free neighbour, eight or four.
-pub fn join_around(
-    w: usize,
-    h: usize,
-    diagonal: bool,
-    blocked: &[u8],
-    parent: &mut [u16],
-    rank: &mut [u8],
-    x: usize,
-    y: usize,
-)
-    requires { ⌜ Within w h x y × (w * h ≤ length (now blocked)) × Forest 200 (w * h) (now parent) (now rank) ⌝ }
-    ensures { λ _. ⌜ record { parent = now (parent .exit); rank = now (rank .exit) } ≡ joinedTo w h (now (blocked .entry)) x y (around diagonal) (record { parent = now (parent .entry); rank = now (rank .entry) }) ⌝ }
-{
-    if diagonal {
-        let all = [0u8, 1, 2, 3, 4, 5, 6, 7];
-        join_along(w, h, blocked, parent, rank, x, y, &all);
-        return;
-    }
-    let four = [0u8, 2, 4, 6];
-    join_along(w, h, blocked, parent, rank, x, y, &four);
-}
-
-// A rebuild's joins: below, above and to the right.
-fn join_ahead(
-    w: usize,
-    h: usize,
-    diagonal: bool,
-    blocked: &[u8],
-    parent: &mut [u16],
-    rank: &mut [u8],
-    x: usize,
-    y: usize,
-)
-    requires { ⌜ Within w h x y × (w * h ≤ length (now blocked)) × Forest 200 (w * h) (now parent) (now rank) ⌝ }
-    ensures { λ _. ⌜ record { parent = now (parent .exit); rank = now (rank .exit) } ≡ joinedTo w h (now (blocked .entry)) x y (ahead diagonal) (record { parent = now (parent .entry); rank = now (rank .entry) }) ⌝ }
-{
-    if diagonal {
-        let six = [4u8, 0, 2, 1, 2, 3];
-        join_along(w, h, blocked, parent, rank, x, y, &six);
-        return;
-    }
-    let three = [4u8, 0, 2];
-    join_along(w, h, blocked, parent, rank, x, y, &three);
+    fills::fill_zero(blocked, n);
+    fills::fill_masks(w, h, blocked, neighbours, n);
+    fills::fill_forced(neighbours, forced, n);
+    fills::fill_ident(parent, n);
+    fills::fill_zero(rank, n);
 }
 
 // A rebuild at one cell.
@@ -129,7 +45,7 @@ fn rebuild_cell(
 {
     let i = y * w + x;
     if blocked[i] == 0 {
-        join_ahead(w, h, diagonal, blocked, parent, rank, x, y);
+        joins::join_ahead(w, h, diagonal, blocked, parent, rank, x, y);
     }
 }
 
@@ -164,22 +80,11 @@ pub fn rebuild(
     ensures { λ _. ⌜ record { parent = now (parent .exit); rank = now (rank .exit) } ≡ rebuiltLinks w h diagonal (now (blocked .entry)) (now (parent .entry)) (now (rank .entry)) ⌝ }
 {
     let n = w * h;
-    cells::fill_ident(parent, n);
-    cells::fill_zero(rank, n);
+    fills::fill_ident(parent, n);
+    fills::fill_zero(rank, n);
     for x in 0..w {
         rebuild_column(w, h, diagonal, blocked, parent, rank, x);
     }
-}
-
-// Whether an edit blocks a free cell.
-fn blocks_free(blocked: &[u8], i: usize, b: bool) -> bool
-    requires { ⌜ i < length (now blocked) ⌝ }
-    ensures { λ r. ⌜ r ≡ (b && (eqb (getD (now (blocked .entry)) i 0) 0)) ⌝ }
-{
-    if b {
-        return blocked[i] == 0;
-    }
-    false
 }
 
 // `set`, of a grid in lent tables: the answer is the mark afterwards.
@@ -202,12 +107,12 @@ pub fn edit(
         ≡ editOf w h diagonal (record { blocked = now (blocked .entry); masks = now (neighbours .entry); forced = now (forced .entry); parent = now (parent .entry); rank = now (rank .entry); dirty = dirty }) x y b ⌝ }
 {
     let i = y * w + x;
-    if blocks_free(blocked, i, b) {
-        cells::edit_cell(w, h, diagonal, blocked, neighbours, forced, x, y, b);
+    if refresh::blocks_free(blocked, i, b) {
+        refresh::edit_cell(w, h, diagonal, blocked, neighbours, forced, x, y, b);
         return true;
     }
-    join_around(w, h, diagonal, blocked, parent, rank, x, y);
-    cells::edit_cell(w, h, diagonal, blocked, neighbours, forced, x, y, b);
+    joins::join_around(w, h, diagonal, blocked, parent, rank, x, y);
+    refresh::edit_cell(w, h, diagonal, blocked, neighbours, forced, x, y, b);
     dirty
 }
 

@@ -1,10 +1,8 @@
-// Numbers, points and lines of text: the reader. A text is a slice of bytes and a place in it; what was read comes with the count of its bytes.
-pub mod write;
-
+// Numbers and points of a text: the reader. A text is a slice of bytes and a place in it; what was read comes with the count of its bytes.
 ghost use mathlib.Core.Path.{_≡_};
 ghost use Prim.Native.Nat.{_+_, _≤_, _<_};
 ghost use lib.ListN.{length, drop};
-ghost use Rattle.text.specs.Grammar.{moreOf, numberOf, coordOf, pairOf, startsWith, numberLine, pointLine};
+ghost use Rattle.text.specs.Grammar.{moreOf, numberOf, coordOf, pairOf};
 use points::Point;
 
 // A number that was read, with the count of its bytes.
@@ -57,7 +55,7 @@ fn more(s: &[u8], start: usize, limit: u32, first: u32) -> Num
 }
 
 // A decimal number with no leading zero, at most limit.
-fn number(s: &[u8], at: usize, limit: u32) -> Num
+pub fn number(s: &[u8], at: usize, limit: u32) -> Num
     requires { ⌜ (9 ≤ limit) × (limit ≤ 1024) ⌝ }
     ensures { λ r. ⌜ r ≡ numberOf limit (drop at (now (s .entry))) ⌝ }
 {
@@ -100,7 +98,7 @@ fn coordinate(s: &[u8], at: usize) -> Coord
 }
 
 // Two coordinates with a comma between them.
-fn pair_at(s: &[u8], at: usize) -> Pair
+pub fn pair_at(s: &[u8], at: usize) -> Pair
     ensures { λ r. ⌜ r ≡ pairOf (drop at (now (s .entry))) ⌝ }
 {
     let Coord::At(x, m) = coordinate(s, at) else {
@@ -117,66 +115,4 @@ fn pair_at(s: &[u8], at: usize) -> Pair
         return Pair::Neither;
     };
     Pair::Both(Point { x, y }, m + 1 + n)
-}
-
-// Whether the text at a place begins with a word.
-pub fn starts(s: &[u8], at: usize, word: &[u8]) -> bool
-    ensures { λ r. ⌜ r ≡ startsWith (now (word .entry)) (drop at (now (s .entry))) ⌝ }
-{
-    let mut i = at;
-    let mut j = 0;
-    while j < word.len() {
-        if s.len() <= i {
-            return false;
-        }
-        if s[i] != word[j] {
-            return false;
-        }
-        i += 1;
-        j += 1;
-    }
-    true
-}
-
-// A line: a word, a number of at most limit, a newline.
-pub fn number_line(s: &[u8], at: usize, word: &[u8], limit: u32) -> Num
-    requires { ⌜ (9 ≤ limit) × (limit ≤ 1024) ⌝ }
-    ensures { λ r. ⌜ r ≡ numberLine (now (word .entry)) limit (drop at (now (s .entry))) ⌝ }
-{
-    if !starts(s, at, word) {
-        return Num::Wrong;
-    }
-    let from = at + word.len();
-    let Num::Whole(v, n) = number(s, from, limit) else {
-        return Num::Wrong;
-    };
-    let end = from + n;
-    if s.len() <= end {
-        return Num::Wrong;
-    }
-    if s[end] != 10 {
-        return Num::Wrong;
-    }
-    Num::Whole(v, word.len() + n + 1)
-}
-
-// A line: a word, two coordinates, a newline.
-pub fn point_line(s: &[u8], at: usize, word: &[u8]) -> Pair
-    ensures { λ r. ⌜ r ≡ pointLine (now (word .entry)) (drop at (now (s .entry))) ⌝ }
-{
-    if !starts(s, at, word) {
-        return Pair::Neither;
-    }
-    let from = at + word.len();
-    let Pair::Both(p, n) = pair_at(s, from) else {
-        return Pair::Neither;
-    };
-    let end = from + n;
-    if s.len() <= end {
-        return Pair::Neither;
-    }
-    if s[end] != 10 {
-        return Pair::Neither;
-    }
-    Pair::Both(p, word.len() + n + 1)
 }

@@ -13,7 +13,7 @@ use Rattle.goals.specs.declared.Plan.{Plan}
 use Rattle.offers.specs.Search.{Reply, refused}
 use Rattle.cells.specs.Cells.{mostSide}
 use Rattle.finder.specs.declared.Answer.{Answer}
-use Rattle.finder.specs.declared.Lengths.{Lengths}
+use Rattle.plans.specs.declared.Lengths.{Lengths}
 use Rattle.finder.specs.Find as F
 use Rattle.finder.specs.Find.{Covered, answerOf, outAfter}
 use Rattle.grid.specs.declared.Grid.{Grid}

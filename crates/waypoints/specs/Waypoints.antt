@@ -7,7 +7,7 @@ use Rattle.points.specs.declared.Refusal.the-variants.{State}
 use Rattle.costs.specs.declared.Settings.{Settings}
 use Rattle.goals.specs.declared.Plan.{Plan}
 use Rattle.offers.specs.Search.{Reply, refused}
-use Rattle.finder.specs.declared.Lengths.{Lengths}
+use Rattle.plans.specs.declared.Lengths.{Lengths}
 use Rattle.finder.specs.Find as F
 use Rattle.finder.specs.Find.{Ground, ground}
 use Rattle.grid.specs.declared.Grid.{Grid}

@@ -1,4 +1,4 @@
-//! The form of every list: blocks, each a length (u32) and as many bytes. Numbers are little-endian.
+//! The form of every list: blocks, each a length (u32) and as many bytes, of which the first is the list's kind. Numbers are little-endian.
 use crate::rng::Rng;
 use grid_util::point::Point;
 use std::io::Write;
@@ -78,22 +78,37 @@ pub fn asked(name: &str) -> (Rng, u64) {
     (Rng(a[0]), *a.get(1).unwrap_or(&1))
 }
 
-/// The largest block that a list may have.
+/// The kinds of a list, one for each program that prints one.
+pub const GROUND: u8 = 1;
+pub const TABLES: u8 = 2;
+pub const SEARCHES: u8 = 3;
+pub const PATHS: u8 = 4;
+pub const CHECKS: u8 = 5;
+pub const TEXTS: u8 = 6;
+
+/// The most bytes that a block may have after the list's kind.
 pub const MOST: usize = 65_536;
 
-/// A list on standard output.
-pub struct List(std::io::BufWriter<std::io::Stdout>);
+/// A list of one kind on standard output.
+pub struct List {
+    kind: u8,
+    out: std::io::BufWriter<std::io::Stdout>,
+}
 
 impl List {
-    pub fn out() -> List {
-        List(std::io::BufWriter::new(std::io::stdout()))
+    pub fn out(kind: u8) -> List {
+        let out = std::io::BufWriter::new(std::io::stdout());
+        List { kind, out }
     }
     pub fn put(&mut self, b: &Block) {
         assert!(b.len() <= MOST, "a block of {} bytes", b.len());
-        self.0.write_all(&(b.len() as u32).to_le_bytes()).unwrap();
-        self.0.write_all(&b.0).unwrap();
+        self.out
+            .write_all(&(b.len() as u32 + 1).to_le_bytes())
+            .unwrap();
+        self.out.write_all(&[self.kind]).unwrap();
+        self.out.write_all(&b.0).unwrap();
     }
     pub fn end(mut self) {
-        self.0.flush().unwrap();
+        self.out.flush().unwrap();
     }
 }

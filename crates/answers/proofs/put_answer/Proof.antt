@@ -1,22 +1,17 @@
-use Rattle.answers.proofs.Laws.{flag-most}
+-- `answers::put_answer` meets its contract: four lines and the points stored one after the other. Assumes nothing.
 use Rattle.answers.specs.Answers.{resultWord, popsWord, waypointsWord, clearWord, pointsText, answerText}
-use Rattle.text.proofs.Written.{Wrote, then, number-text-length}
-use Rattle.text.specs.Render.{numberText}
+use Rattle.printing.proofs.Written.{flag-most, Wrote, then, number-text-length}
+use Rattle.printing.specs.Render.{numberText}
 use lib.Seq.{sets}
 use lib.ListN.{length}
 use denote.Ref.{now}
 use native.Mathlib.Omega.{arith}
-use Prim.Native.Nat.{ℕ, _+_, _/_}
+use Prim.Native.Nat.{_+_, _/_}
 use mathlib.Core.Bool.{cond}
-use mathlib.Core.Path.{_≡_, _∙_}
+use mathlib.Core.Path.{_∙_}
 use borrow.Author.Needs.{needs}
 use Rattle.answers.proofs.put_answer.Statement.{statement}
 use Rattle.answers.proofs.put_answer.Tie as tie
-use Rattle.answers.proofs.put_answer.Reads as reads
-use Rattle.answers.proofs.put_answer.Lts as lts
-use Rattle.answers.proofs.flag.Reads as flag-reads
-use Rattle.answers.proofs.put_points.Reads as put-points-reads
-use Rattle.text.proofs.write.put_number_line.Reads as put-number-line-reads
 
 slice-aggregate-put-number-line : tie.Need-slice-aggregate-put-number-line
 slice-aggregate-put-number-line c = search needs

@@ -1,15 +1,12 @@
+-- `answers::put_bad` meets its contract: two lines stored one after the other. Assumes nothing.
 use Rattle.answers.specs.Answers.{resultWord, lineWord, badText}
-use Rattle.text.proofs.Written.{Wrote, then, number-text-length}
-use Rattle.text.specs.Render.{numberText}
+use Rattle.printing.proofs.Written.{Wrote, then, number-text-length}
+use Rattle.printing.specs.Render.{numberText}
 use denote.Ref.{now}
 use native.Mathlib.Omega.{arith}
-use mathlib.Core.Path.{_≡_}
 use borrow.Author.Needs.{needs}
 use Rattle.answers.proofs.put_bad.Statement.{statement}
 use Rattle.answers.proofs.put_bad.Tie as tie
-use Rattle.answers.proofs.put_bad.Reads as reads
-use Rattle.answers.proofs.put_bad.Lts as lts
-use Rattle.text.proofs.write.put_number_line.Reads as put-number-line-reads
 
 slice-aggregate-put-number-line : tie.Need-slice-aggregate-put-number-line
 slice-aggregate-put-number-line c = search needs

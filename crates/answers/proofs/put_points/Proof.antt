@@ -1,21 +1,18 @@
+-- `answers::put_points` meets its contract: the lines that are yet to be stored give them all. The measure is the numbers that are left. Assumes nothing.
 use Rattle.answers.proofs.Laws.{points-end, points-count, points-stores}
 use Rattle.answers.specs.Answers.{pointWord, pointsText}
-use Rattle.paths.proofs.Laws.{none-bad, legal-here}
-use Rattle.paths.specs.declared.Bad.the-variants.{Nowhere}
-use Rattle.paths.specs.Walks.{firstBad}
-use Rattle.text.proofs.Written.{point-text-length}
+use Rattle.pairs.proofs.Laws.{legal-here, none-bad}
+use Rattle.pairs.specs.declared.Bad.the-variants.{Nowhere}
+use Rattle.pairs.specs.Pairs.{firstBad}
+use Rattle.printing.proofs.Written.{point-text-length}
 use lib.Seq.{sets}
 use lib.ListN.{length, drop}
 use denote.Ref.{now}
 use native.Mathlib.Omega.{arith}
-use Prim.Native.Nat.{ℕ, _+_, _-_, _*_, _%_, _≤_, _<_}
+use Prim.Native.Nat.{_+_, _-_, _*_, _%_, _≤_, _<_}
 use mathlib.Core.Path.{_≡_, refl, sym, ap, _∙_}
 use Rattle.answers.proofs.put_points.Statement.{statement}
 use Rattle.answers.proofs.put_points.Tie as tie
-use Rattle.answers.proofs.put_points.Reads as reads
-use Rattle.answers.proofs.put_points.Lts as lts
-use Rattle.paths.proofs.point_at.Reads as point-at-reads
-use Rattle.text.proofs.write.put_point_line.Reads as put-point-line-reads
 
 abbrev Inv-loop : tie.InvT-loop
 Inv-loop buf₀ at list k₀ i₀ word buf k i =
@@ -41,7 +38,7 @@ put-point-line-requires c κs =
     let v = c .before .before .before .before .loop in
     let l = now (c .before .before .before .before .before .before .args .list) in
     let p = c .before .before .point-at in
-    (legal-here l (v .i) (p .result) (p .result) (p .ensures) (none-bad l (v .i) (omega arith) (v .inv .3) .0), omega (arith, v .inv, c .before .before .before .loop-test .taken, c .before .before .before .before .before .before .pre .0))
+    (legal-here l (v .i) (p .result) (p .ensures) (none-bad l (v .i) (omega arith) (v .inv .3) .0), omega (arith, v .inv, c .before .before .before .loop-test .taken, c .before .before .before .before .before .before .pre .0))
 
 add-i : tie.Need-add-i Inv-loop μ-loop
 add-i c = omega (arith, c .before .before .before .before .before .before .before .loop .inv, c .before .before .before .before .before .before .loop-test .taken, c .before .before .before .before .before .before .before .before .before .good)

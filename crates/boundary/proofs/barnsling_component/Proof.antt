@@ -1,13 +1,9 @@
 -- `boundary::barnsling_component` meets its contract: STATE, POINT, then the root. Assumes nothing.
 use native.Mathlib.Omega.{arith}
-use mathlib.Core.Path.{_≡_, sym, ap, _∙_, refl}
-use Prim.Native.Nat.{ℕ, _*_}
+use mathlib.Core.Path.{_≡_, sym, _∙_}
 use borrow.Author.Tests.{not-true, not-false}
 use mir.Facts.{toZ-ofZ}
-use Rattle.cells.specs.Cells.{placeOf}
-use Rattle.cells.proofs.Cell.{area}
-use Rattle.tables.proofs.Joins.{sides-of}
-use Rattle.boundary.specs.Packing.{pointOf, flagOf}
+use Rattle.packing.specs.Packing.{pointOf}
 use Rattle.components.proofs.Roots.{weaken}
 use Rattle.boundary.proofs.Lent as L
 use borrow.Author.Needs.{needs}

@@ -1,10 +1,9 @@
 -- `boundary::barnsling_direction` meets its contract: the points are made. Assumes nothing.
-use native.Mathlib.Omega.{arith}
 use mathlib.Core.Path.{_≡_, ap, _∙_}
 use mir.Facts.{toZ-ofZ}
-use Rattle.points.specs.Compass.{directionOf}
+use Rattle.headings.specs.Headings.{directionOf}
 use Rattle.points.specs.declared.Point.{Point}
-use Rattle.boundary.specs.Packing.{pointOf, headingPacked}
+use Rattle.packing.specs.Packing.{pointOf, headingPacked}
 use borrow.Author.Needs.{needs}
 use Rattle.boundary.proofs.barnsling_direction.Statement.{statement}
 use Rattle.boundary.proofs.barnsling_direction.Tie as tie

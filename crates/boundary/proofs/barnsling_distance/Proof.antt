@@ -1,11 +1,10 @@
 -- `boundary::barnsling_distance` meets its contract: the flag is read and the points are made. Assumes nothing.
-use native.Mathlib.Omega.{arith}
 use mathlib.Core.Path.{_≡_, ap, _∙_}
 use mir.Facts.{toZ-ofZ}
 use mathlib.Core.Bool.{Bool}
 use Rattle.costs.specs.Cost.{distanceOf}
 use Rattle.points.specs.declared.Point.{Point}
-use Rattle.boundary.specs.Packing.{flagOf, pointOf, measurePacked}
+use Rattle.packing.specs.Packing.{flagOf, pointOf, measurePacked}
 use borrow.Author.Needs.{needs}
 use Rattle.boundary.proofs.barnsling_distance.Statement.{statement}
 use Rattle.boundary.proofs.barnsling_distance.Tie as tie

@@ -1,7 +1,7 @@
 -- `boundary::barnsling_neighbours_at` meets its contract. Assumes nothing.
 use mathlib.Core.Path.{_≡_, ap, _∙_}
 use mir.Facts.{toZ-ofZ}
-use Rattle.boundary.specs.Packing.{pointOf}
+use Rattle.packing.specs.Packing.{pointOf}
 use Rattle.boundary.specs.Lent.{maskLent}
 use borrow.Author.Needs.{needs}
 use Rattle.boundary.proofs.barnsling_neighbours_at.Statement.{statement}

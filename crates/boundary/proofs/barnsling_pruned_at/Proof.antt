@@ -2,7 +2,7 @@
 use native.Mathlib.Omega.{arith}
 use mathlib.Core.Path.{_≡_, refl}
 use mir.Facts.{toZ-ofZ}
-use Rattle.boundary.specs.Packing.{pointOf, flagOf}
+use Rattle.packing.specs.Packing.{pointOf, flagOf}
 use Rattle.boundary.proofs.Lent as L
 use borrow.Author.Needs.{needs}
 use Rattle.boundary.proofs.barnsling_pruned_at.Statement.{statement}

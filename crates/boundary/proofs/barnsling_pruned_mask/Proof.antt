@@ -1,5 +1,4 @@
 -- `boundary::barnsling_pruned_mask` meets its contract: the flag is read once. Assumes nothing.
-use native.Mathlib.Omega.{arith}
 use mathlib.Core.Path.{ap, _∙_}
 use mathlib.Core.Bool.{Bool}
 use Prim.Native.Nat.{_%_}

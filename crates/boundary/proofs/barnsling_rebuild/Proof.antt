@@ -1,7 +1,7 @@
 -- `boundary::barnsling_rebuild` meets its contract: STATE, then the rebuild. Assumes nothing.
 use mathlib.Core.Path.{sym, _∙_}
 use borrow.Author.Tests.{not-true, not-false}
-use Rattle.boundary.specs.Packing.{flagOf}
+use Rattle.packing.specs.Packing.{flagOf}
 use Rattle.boundary.proofs.Lent as L
 use borrow.Author.Needs.{needs}
 use Rattle.boundary.proofs.barnsling_rebuild.Statement.{statement}

@@ -1,26 +1,13 @@
 -- `boundary::barnsling_single_goal` meets its contract: the numbers are read, and the search asked. Assumes nothing.
-use native.Mathlib.Omega.{arith}
-use mathlib.Core.Path.{_≡_, sym, ap, _∙_, refl}
-use Prim.Native.Nat.{ℕ, _*_}
-use borrow.Author.Tests.{not-true, not-false}
+use mathlib.Core.Path.{_≡_, ap, _∙_}
 use mir.Facts.{toZ-ofZ}
-use Rattle.cells.specs.Cells.{placeOf}
-use Rattle.cells.proofs.Cell.{area}
-use Rattle.tables.proofs.Joins.{sides-of}
-use Rattle.boundary.specs.Packing.{pointOf, flagOf}
-use Rattle.components.proofs.Roots.{weaken}
-use lib.ListN.{length}
-use mir.Syntax.{w32}
+use Rattle.packing.specs.Packing.{pointOf, flagOf, settingsOf}
 use mathlib.Core.Bool.{Bool}
 use Rattle.points.specs.declared.Point.{Point}
-use Rattle.points.specs.declared.Told.{Told}
 use Rattle.costs.specs.declared.Settings.{Settings}
-use Rattle.finder.specs.declared.Outcome.{Outcome}
-use Rattle.finder.specs.Find.{ground, lengthsOf, singlePlan, severalPlan}
-use Rattle.finder.proofs.Laws.{stopped}
-use Rattle.boundary.specs.Searches.{settingsOf, singleLent, severalLent, routeWith, routeTold}
+use Rattle.finder.specs.Find.{ground, lengthsOf, singlePlan}
+use Rattle.boundary.specs.Searches.{singleLent}
 use Rattle.boundary.proofs.Searches as R
-use Rattle.boundary.proofs.Lent as L
 use borrow.Author.Needs.{needs}
 use Rattle.boundary.proofs.barnsling_single_goal.Statement.{statement}
 use Rattle.boundary.proofs.barnsling_single_goal.Tie as tie

@@ -1,14 +1,9 @@
 -- `boundary::linked` meets its contract, test by test. Assumes nothing.
 use native.Mathlib.Omega.{arith}
-use mathlib.Core.Path.{_≡_, sym, ap, _∙_, refl}
-use Prim.Native.Nat.{ℕ, _*_}
+use mathlib.Core.Path.{sym, _∙_}
 use borrow.Author.Tests.{not-true, not-false}
-use mir.Facts.{toZ-ofZ}
-use Rattle.cells.specs.Cells.{placeOf}
 use Rattle.cells.proofs.Cell.{area}
-use Rattle.tables.proofs.Joins.{sides-of}
-use Rattle.boundary.specs.Packing.{pointOf, flagOf}
-use Rattle.components.proofs.Roots.{weaken}
+use Rattle.cells.proofs.Cell.{sides-of}
 use Rattle.boundary.proofs.Lent as L
 use borrow.Author.Needs.{needs}
 use Rattle.boundary.proofs.linked.Statement.{statement}

@@ -8,13 +8,13 @@ use native.Mathlib.Omega.{arith}
 use lib.ListN.{length}
 use borrow.Fn.Kinds.{In}
 use borrow.Fn.PlainCycle.{Measures, is, falls, and}
-use Rattle.points.specs.Compass.{headingOf}
+use Rattle.headings.specs.Headings.{headingOf}
 use Rattle.masks.specs.Masks.{hasBit, prunedIn}
 use Rattle.goals.specs.Goals.{mostSide}
 use Rattle.offers.proofs.Rounds.{Rounds, round-start, round-turn, round-halt, round-end}
-use Rattle.jumps.specs.Floor.{jumpOf}
-use Rattle.jumps.specs.declared.Jump.the-variants.{At}
-use Rattle.jumps.proofs.Laws.{held, wider, spot-legal}
+use Rattle.jumps.specs.Jumps.{jumpOf}
+use Rattle.stops.specs.declared.Jump.the-variants.{At}
+use Rattle.stops.proofs.Laws.{held, wider, spot-legal}
 use Rattle.jumps.proofs.Found.{Landed, jump-found}
 use Rattle.expansion.specs.Expand.{tables, followAt}
 use Rattle.expansion.proofs.Laws.{follow-on, reached-none, reached-give, reached-deep, deeper-none, deeper-more, expand-same, expand-each}
@@ -26,15 +26,15 @@ use Rattle.expansion.proofs.+expand+follow.Lts-expand as expand-lts
 use Rattle.expansion.proofs.follow.Reads as follow
 use Rattle.expansion.proofs.follow.Kinds as follow-kinds
 use Rattle.expansion.proofs.+expand+follow.Lts-follow as follow-lts
-use Rattle.expansion.proofs.again.Reads as again-reads
-use Rattle.expansion.proofs.give.Reads as give-reads
-use Rattle.expansion.proofs.next_of.Reads as next-of-reads
-use Rattle.jumps.proofs.byte.Reads as byte-reads
+use Rattle.successors.proofs.again.Reads as again-reads
+use Rattle.successors.proofs.give.Reads as give-reads
+use Rattle.successors.proofs.next_of.Reads as next-of-reads
+use Rattle.stops.proofs.byte.Reads as byte-reads
 use Rattle.jumps.proofs.jump_along.Reads as jump-along-reads
-use Rattle.jumps.proofs.price_of.Reads as price-of-reads
-use Rattle.jumps.proofs.spot.Reads as spot-reads
-use Rattle.masks.proofs.pruned_now.Reads as pruned-now-reads
-use Rattle.points.proofs.direction_between.Reads as direction-between-reads
+use Rattle.stops.proofs.price_of.Reads as price-of-reads
+use Rattle.stops.proofs.spot.Reads as spot-reads
+use Rattle.masks.proofs.pruned_mask.Reads as pruned-mask-reads
+use Rattle.headings.proofs.direction_between.Reads as direction-between-reads
 use Rattle.expansion.proofs.+expand+follow.{statement}
 use Rattle.expansion.proofs.+expand+follow.Tie.{close}
 
@@ -57,7 +57,7 @@ abbrev follow-below : ℕ → In 10 follow-kinds.ps
 follow-below t = and 10 follow-kinds.ps (falls 10 follow-kinds.ps _<_ μ-follow t) follow.Pre
 
 abbrev expand-claims : ℕ → expand-lts.Claims
-expand-claims t = (spot-reads.Asked, spot-reads.Learnt, direction-between-reads.Asked, direction-between-reads.Learnt, byte-reads.Asked, byte-reads.Learnt, pruned-now-reads.Asked, pruned-now-reads.Learnt, price-of-reads.Asked, price-of-reads.Learnt, next-of-reads.Asked, next-of-reads.Learnt, follow-below t, follow.Post)
+expand-claims t = (spot-reads.Asked, spot-reads.Learnt, direction-between-reads.Asked, direction-between-reads.Learnt, byte-reads.Asked, byte-reads.Learnt, pruned-mask-reads.Asked, pruned-mask-reads.Learnt, price-of-reads.Asked, price-of-reads.Learnt, next-of-reads.Asked, next-of-reads.Learnt, follow-below t, follow.Post)
 
 abbrev follow-claims : ℕ → follow-lts.Claims
 follow-claims t = (jump-along-reads.Asked, jump-along-reads.Learnt, again-reads.Asked, again-reads.Learnt, expand-below t, expand.Post, give-reads.Asked, give-reads.Learnt)
@@ -88,8 +88,8 @@ expand-returns t c = expand-same _ _ _ _ _ _ _ _ (sym (c .enum-told .given .1) �
 expand-byte-requires : (t : ℕ) → expand-lts.Need-byte-requires (expand-claims t) (expand-at t) expand.Post expand-Inv-loop expand-μ-loop
 expand-byte-requires t c κs = let r = c .before .before .before .before .before .before .before .before .before .before .before .before .before .before .pre .1 in held (r .floors .sized-neighbours) (r .inside)
 
-expand-pruned-now-requires : (t : ℕ) → expand-lts.Need-pruned-now-requires (expand-claims t) (expand-at t) expand.Post expand-Inv-loop expand-μ-loop
-expand-pruned-now-requires t c κs = search needs
+expand-pruned-mask-requires : (t : ℕ) → expand-lts.Need-pruned-mask-requires (expand-claims t) (expand-at t) expand.Post expand-Inv-loop expand-μ-loop
+expand-pruned-mask-requires t c κs = search needs
 
 expand-price-of-requires : (t : ℕ) → expand-lts.Need-price-of-requires (expand-claims t) (expand-at t) expand.Post expand-Inv-loop expand-μ-loop
 expand-price-of-requires t c κs = search needs
@@ -139,7 +139,7 @@ expand-returns-2 t c =
     round-halt _ _ _ _ _ _ _ _ _ _ _ _ _ _ _ _ _ _ (c .before .before .before .before .before .before .before .before .before .before .before .before .before .before .before .before .before .before .before .before .before .before .before .loop .inv .0) _ _ _ _ _ _ _ (c .before .before .before .before .before .before .before .before .before .before .before .before .before .before .before .before .before .before .before .before .before .before .loop-test .taken) (c .before .before .before .before .before .before .before .before .before .before .before .before .before .before .before .follow .ensures ∙ follow-on _ _ _ _ _ _ _ _ _ _ _ (c .before .before .before .before .before .before .before .before .before .before .before .before .before .before .before .before .before .before .before .before .before .before .before .loop .inv .1 (c .before .before .before .before .before .before .before .before .before .before .before .before .before .before .before .before .before .before .before .before .before .before .loop-test .taken))) _ (c .before .fate .given .1)
     ∙ expand-each _ _ _ _ _ _ _ _ _ _
     (sym (c .before .before .before .before .before .before .before .before .before .before .before .before .before .before .before .before .before .before .before .before .before .before .before .before .before .before .before .before .before .travel .given .1) ∙ c .before .before .before .before .before .before .before .before .before .before .before .before .before .before .before .before .before .before .before .before .before .before .before .before .before .before .before .before .before .before .before .direction-between .ensures ∙ ap (headingOf (c .before .before .before .before .before .before .before .before .before .before .before .before .before .before .before .before .before .before .before .before .before .before .before .before .before .before .before .before .before .before .before .before .before .before .before .before .before .before .before .before .before .before .args .above)) (c .before .before .before .before .before .before .before .before .before .before .before .before .before .before .before .before .before .before .before .before .before .before .before .before .before .before .before .before .before .before .before .before .spot .ensures))
-    (c .before .before .before .before .before .before .before .before .before .before .before .before .before .before .before .before .before .before .before .before .before .before .before .before .before .before .pruned-now .ensures ∙ ap (prunedIn (c .before .before .before .before .before .before .before .before .before .before .before .before .before .before .before .before .before .before .before .before .before .before .before .before .before .before .before .before .before .before .before .before .before .before .before .before .before .before .before .before .before .before .args .p .settings .diagonal) (c .before .before .before .before .before .before .before .before .before .before .before .before .before .before .before .before .before .before .before .before .before .before .before .before .before .before .before .before .before .travel .given .0 .0 .number % 8)) (c .before .before .before .before .before .before .before .before .before .before .before .before .before .before .before .before .before .before .before .before .before .before .before .before .before .before .before .byte .ensures))
+    (c .before .before .before .before .before .before .before .before .before .before .before .before .before .before .before .before .before .before .before .before .before .before .before .before .before .before .pruned-mask .ensures ∙ ap (prunedIn (c .before .before .before .before .before .before .before .before .before .before .before .before .before .before .before .before .before .before .before .before .before .before .before .before .before .before .before .before .before .before .before .before .before .before .before .before .before .before .before .before .before .before .args .p .settings .diagonal) (c .before .before .before .before .before .before .before .before .before .before .before .before .before .before .before .before .before .before .before .before .before .before .before .before .before .before .before .before .before .travel .given .0 .0 .number % 8)) (c .before .before .before .before .before .before .before .before .before .before .before .before .before .before .before .before .before .before .before .before .before .before .before .before .before .before .before .byte .ensures))
     (c .before .before .before .before .before .before .before .before .before .before .before .before .before .before .before .before .before .before .before .before .before .before .before .before .before .price-of .ensures)
 
 expand-enum-told-2 : (t : ℕ) → expand-lts.Need-enum-told-2 (expand-claims t) (expand-at t) expand.Post expand-Inv-loop expand-μ-loop
@@ -189,7 +189,7 @@ expand-returns-3 t c =
     round-end _ _ _ _ _ _ _ _ _ _ _ _ _ _ _ _ _ _ (c .before .loop .inv .0) (c .loop-test .left)
     ∙ expand-each _ _ _ _ _ _ _ _ _ _
     (sym (c .before .before .before .before .before .before .before .travel .given .1) ∙ c .before .before .before .before .before .before .before .before .before .direction-between .ensures ∙ ap (headingOf (c .before .before .before .before .before .before .before .before .before .before .before .before .before .before .before .before .before .before .before .before .args .above)) (c .before .before .before .before .before .before .before .before .before .before .spot .ensures))
-    (c .before .before .before .before .pruned-now .ensures ∙ ap (prunedIn (c .before .before .before .before .before .before .before .before .before .before .before .before .before .before .before .before .before .before .before .before .args .p .settings .diagonal) (c .before .before .before .before .before .before .before .travel .given .0 .0 .number % 8)) (c .before .before .before .before .before .byte .ensures))
+    (c .before .before .before .before .pruned-mask .ensures ∙ ap (prunedIn (c .before .before .before .before .before .before .before .before .before .before .before .before .before .before .before .before .before .before .before .before .args .p .settings .diagonal) (c .before .before .before .before .before .before .before .travel .given .0 .0 .number % 8)) (c .before .before .before .before .before .byte .ensures))
     (c .before .before .before .price-of .ensures)
 
 follow-jump-along-requires : (t : ℕ) → follow-lts.Need-jump-along-requires (follow-claims t) (follow-at t) follow.Post
@@ -298,7 +298,7 @@ pub +expand+follow-spec : {M : Type 1} → statement M
     (expand-enum-told t)
     (expand-returns t)
     (expand-byte-requires t)
-    (expand-pruned-now-requires t)
+    (expand-pruned-mask-requires t)
     (expand-price-of-requires t)
     (expand-next-of-requires t)
     (expand-loop-holds t)

@@ -5,7 +5,8 @@ use borrow.Author.Tests.{not-true, not-false}
 use borrow.Author.Needs.{needs}
 use lib.ListN.{length}
 use Rattle.finder.proofs.Laws.{stopped, handed, roomy, asked, count-is, several-legal, several-setting, several-count, several-start, several-goals, several-open}
-use Rattle.finder.specs.Find.{ground, lengthsOf, planOf, startedIn, severalPlan}
+use Rattle.finder.specs.Find.{ground, lengthsOf, startedIn, severalPlan}
+use Rattle.plans.specs.Plans.{planOf}
 use Rattle.goals.specs.declared.Goal.the-variants.{Several}
 use Rattle.finder.proofs.multiple_goals.Statement.{statement}
 use Rattle.finder.proofs.multiple_goals.Tie as tie

@@ -5,7 +5,8 @@ use borrow.Author.Tests.{not-true, not-false}
 use borrow.Author.Needs.{needs}
 use lib.IntN.{ℤ}
 use Rattle.finder.proofs.Laws.{readPair, pair-read, stopped, handed, roomy, asked, single-legal, single-setting, single-start, single-goal, single-barred, single-open}
-use Rattle.finder.specs.Find.{ground, lengthsOf, planOf, pairOf, startedIn, singlePlan}
+use Rattle.finder.specs.Find.{ground, lengthsOf, pairOf, startedIn, singlePlan}
+use Rattle.plans.specs.Plans.{planOf}
 use Rattle.search.specs.Loop.{Legal}
 use Rattle.goals.specs.declared.Goal.{Goal}
 use Rattle.finder.proofs.single_goal.Statement.{statement}

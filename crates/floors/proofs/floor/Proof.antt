@@ -1,21 +1,18 @@
+-- `floors::floor` meets its contract: each table is filled in turn. Assumes nothing.
 use Rattle.floors.specs.Floors.{floorGrid}
 use Rattle.grid.specs.Grids.{zeros}
 use Rattle.masks.specs.Masks.{forcedOf}
 use Rattle.cells.proofs.Cell.{area}
-use Rattle.cells.specs.Cells.{mostSide, fillTo}
+use Rattle.cells.specs.Cells.{mostSide}
+use Rattle.fills.specs.Fills.{fillTo}
 use lib.ListN.{getD}
 use native.Mathlib.Omega.{arith}
-use Prim.Native.Nat.{ℕ, _*_, _≤_}
+use Prim.Native.Nat.{_*_, _≤_}
 use mathlib.Core.Bool.{true}
-use mathlib.Core.Path.{_≡_, refl, sym, ap, _∙_}
+use mathlib.Core.Path.{refl, _∙_}
 use borrow.Author.Needs.{needs}
 use Rattle.floors.proofs.floor.Statement.{statement}
 use Rattle.floors.proofs.floor.Tie as tie
-use Rattle.floors.proofs.floor.Reads as reads
-use Rattle.floors.proofs.floor.Lts as lts
-use Rattle.cells.proofs.fill_forced.Reads as fill-forced-reads
-use Rattle.cells.proofs.fill_ident.Reads as fill-ident-reads
-use Rattle.cells.proofs.fill_masks.Reads as fill-masks-reads
 
 small : (s : tie.Start) → s .args .w * s .args .h ≤ mostSide * mostSide
 small s = area (s .args .w) (s .args .h) (s .pre .wide) (s .pre .high)

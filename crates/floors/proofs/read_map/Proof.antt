@@ -1,17 +1,13 @@
+-- `floors::read_map` meets its contract: a bad text, then a map. Assumes nothing.
 use Rattle.floors.proofs.Laws.{map-fair, fair-sides, read-is}
 use Rattle.floors.specs.Floors.{floorGrid}
 use Rattle.maps.specs.declared.Reading.the-variants.{Map, Bad}
 use Rattle.grid.specs.declared.Outcome.the-variants.{Done}
 use denote.Ref.{now}
-use mathlib.Core.Path.{_≡_, refl, sym, ap, _∙_}
+use mathlib.Core.Path.{sym, ap, _∙_}
 use borrow.Author.Needs.{needs}
 use Rattle.floors.proofs.read_map.Statement.{statement}
 use Rattle.floors.proofs.read_map.Tie as tie
-use Rattle.floors.proofs.read_map.Reads as reads
-use Rattle.floors.proofs.read_map.Lts as lts
-use Rattle.floors.proofs.floor.Reads as floor-reads
-use Rattle.floors.proofs.refused.Reads as refused-reads
-use Rattle.maps.proofs.read.Reads as read-reads
 
 slice-aggregate-read : tie.Need-slice-aggregate-read
 slice-aggregate-read c = search needs

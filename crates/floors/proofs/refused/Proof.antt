@@ -1,15 +1,13 @@
+-- `floors::refused` meets its contract: a new grid of 1 by 1. Assumes nothing.
 use Rattle.floors.proofs.Laws.{new-one}
 use Rattle.floors.specs.Floors.{origin}
 use Rattle.grid.specs.declared.Outcome.the-variants.{Refused as RefusedOutcome}
 use Rattle.points.specs.declared.Refusal.the-variants.{Map as MapBroken}
 use mathlib.Core.Bool.{true}
-use mathlib.Core.Path.{_≡_, ap, _∙_}
+use mathlib.Core.Path.{ap, _∙_}
 use borrow.Author.Needs.{needs}
 use Rattle.floors.proofs.refused.Statement.{statement}
 use Rattle.floors.proofs.refused.Tie as tie
-use Rattle.floors.proofs.refused.Reads as reads
-use Rattle.floors.proofs.refused.Lts as lts
-use Rattle.grid.proofs.new.Reads as new-reads
 
 new-requires : tie.Need-new-requires
 new-requires c κs = search needs

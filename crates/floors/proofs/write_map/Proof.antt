@@ -1,12 +1,11 @@
 -- `floors::write_map` meets its contract: each refusal by its test; past them the map is a fair one and fits. Assumes nothing.
 use mathlib.Core.Path.{_≡_, refl, sym, ap, _∙_}
 use mathlib.Core.Bool.{true}
-use Prim.Native.Nat.{ℕ, _*_, _≤_}
+use Prim.Native.Nat.{ℕ}
 use native.Mathlib.Omega.{arith}
 use borrow.Author.Tests.{not-true, not-false, lt-ltb, le-ltb}
 use lib.ListN.{length}
 use Rattle.points.specs.Plane.{legal}
-use Rattle.cells.specs.Cells.{mostSide}
 use Rattle.grid.specs.Grids.{legalOf}
 use Rattle.maps.specs.Maps.{mostText}
 use Rattle.floors.specs.declared.Put.the-variants.{Bytes}
@@ -15,7 +14,6 @@ use Rattle.floors.proofs.Puts.{fair, held}
 use borrow.Author.Needs.{needs, length-unmapped}
 use Rattle.floors.proofs.write_map.Statement.{statement}
 use Rattle.floors.proofs.write_map.Tie as tie
-use Rattle.points.proofs.Point.legal.Reads as Point-legal-reads
 
 -- what each test that was passed says
 is-legal : (e : tie.Else1) → legalOf (e .before .before .before .args .g) ≡ true

@@ -5,8 +5,9 @@ use Prim.Native.Nat.{ℕ, zero, suc, _-_, _<_, _≤_}
 use native.Mathlib.Omega.{arith}
 use borrow.Author.Needs.{needs}
 use lib.ListN.{take, length, getD}
-use Rattle.fringe.specs.Fringe.{entry, entries, at, top, rest, down}
-use Rattle.fringe.proofs.Lists.{length-entries, at-entries}
+use Rattle.sifts.specs.Sifts.{entry, entries, at, down}
+use Rattle.fringe.specs.Fringe.{top, rest}
+use Rattle.sifts.proofs.Lists.{length-entries, at-entries}
 use Rattle.fringe.proofs.Trim.{top-of, rest-of, rest-one}
 use Rattle.fringe.proofs.pop.Statement.{statement}
 use Rattle.fringe.proofs.pop.Tie as tie

@@ -3,7 +3,7 @@ use mathlib.Core.Path.{ap, _∙_}
 use Prim.Native.Nat.{_+_}
 use borrow.Author.Needs.{needs}
 use lib.ListN.{take}
-use Rattle.fringe.proofs.Lists.{length-entries}
+use Rattle.sifts.proofs.Lists.{length-entries}
 use Rattle.fringe.proofs.Trim.{push-of}
 use Rattle.fringe.proofs.push.Statement.{statement}
 use Rattle.fringe.proofs.push.Tie as tie

@@ -5,10 +5,10 @@ use Prim.Native.Nat.{ℕ, zero, suc, _+_, _-_, _*_, _<_, _≤_}
 use native.Mathlib.Omega.{arith}
 use lib.ListN.{length, getD, set, drop, length-set}
 use lib.Seq.{drop-set-lt}
-use Rattle.fringe.specs.declared.Entry.{Entry}
-use Rattle.fringe.specs.Fringe.{entry, entries, at, up, down, largest, largerOf}
-use Rattle.fringe.proofs.Lists.{at-entries, set-entries, largest-entries, drop-more}
-use Rattle.fringe.proofs.Turns.{down-next, down-one, down-leaf}
+use Rattle.sifts.specs.declared.Entry.{Entry}
+use Rattle.sifts.specs.Sifts.{entry, entries, at, up, down, largest, largerOf}
+use Rattle.sifts.proofs.Lists.{at-entries, set-entries, largest-entries, drop-more}
+use Rattle.sifts.proofs.Turns.{down-next, down-one, down-leaf}
 use Rattle.fringe.proofs.sink.Statement.{statement}
 use Rattle.fringe.proofs.sink.Tie as tie
 

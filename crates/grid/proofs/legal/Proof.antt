@@ -5,8 +5,7 @@ use native.Mathlib.Omega.{arith}
 use lib.ListN.{length}
 use borrow.Author.Tests.{not-true, not-false}
 use Rattle.cells.specs.Cells.{mostSide}
-use Rattle.cells.proofs.Cell.{area}
-use Rattle.tables.proofs.Joins.{sides-of}
+use Rattle.cells.proofs.Cell.{area, sides-of}
 use Rattle.grid.proofs.Tests
 use borrow.Author.Needs.{needs}
 use Rattle.grid.proofs.legal.Statement.{statement}

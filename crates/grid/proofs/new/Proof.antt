@@ -1,7 +1,7 @@
 -- `grid::new` meets its contract. Assumes nothing.
 use mathlib.Core.Path.{sym, _∙_}
 use borrow.Author.Tests.{not-true, not-false}
-use Rattle.tables.proofs.Joins.{sides-of}
+use Rattle.cells.proofs.Cell.{sides-of}
 use Rattle.grid.proofs.Calls
 use borrow.Author.Needs.{needs}
 use Rattle.grid.proofs.new.Statement.{statement}

@@ -6,7 +6,7 @@ use lib.ListN.{length}
 use Rattle.cells.specs.Cells.{mostSide}
 use Rattle.cells.proofs.Cell.{area}
 use Rattle.tables.specs.Tables.{Tables}
-use Rattle.tables.proofs.Joins.{rebuild-leaves}
+use Rattle.tables.proofs.Changes.{rebuild-leaves}
 use Rattle.grid.specs.Grids.{tablesOf, gridOf, rebuildGrid}
 use borrow.Author.Needs.{needs}
 use Rattle.grid.proofs.rebuilt.Statement.{statement}

@@ -1,8 +1,9 @@
 -- `jumps::halts` meets its contract: the first test that says yes decides. Assumes nothing.
 use mathlib.Core.Path.{_≡_, _∙_, ap}
-use Rattle.jumps.specs.Floor.{haltsAt, stopsIn, stopsAt}
-use Rattle.jumps.proofs.Laws.{place-lt}
-use Rattle.jumps.proofs.Targets.{stops-in}
+use Rattle.stops.specs.Stops.{stopsIn, stopsAt}
+use Rattle.jumps.specs.Jumps.{haltsAt}
+use Rattle.stops.proofs.Laws.{place-lt}
+use Rattle.stops.proofs.Targets.{stops-in}
 use Rattle.jumps.proofs.halts.Statement.{statement}
 use Rattle.jumps.proofs.halts.Tie as tie
 

@@ -5,10 +5,12 @@ use mathlib.Core.Bool.{true}
 use Prim.Native.Nat.{_+_, _-_, _≤_, _<_}
 use native.Mathlib.Nat.{mul-le-mul}
 use native.Mathlib.Omega.{arith}
-use Rattle.jumps.specs.Floor.{Within, haltsAt, runOn, priceOf, jumpOf}
-use Rattle.jumps.proofs.Laws.{place-lt, placed}
-use Rattle.jumps.proofs.Going.{Moves, moves, start, nothing, here}
-use Rattle.jumps.proofs.Steps.{Numbered, next-in, next-out, next-is, next-here, next-fits, next-low, next-blocked, next-free, next-on}
+use Rattle.stops.specs.Stops.{Within, priceOf}
+use Rattle.looks.specs.Looks.{runOn}
+use Rattle.jumps.specs.Jumps.{haltsAt, jumpOf}
+use Rattle.stops.proofs.Laws.{place-lt, placed}
+use Rattle.looks.proofs.Going.{Moves, moves, start, nothing, here}
+use Rattle.looks.proofs.Steps.{Numbered, next-in, next-out, next-is, next-here, next-fits, next-low, next-blocked, next-free, next-on}
 use Rattle.jumps.proofs.jump_along.Statement.{statement}
 use Rattle.jumps.proofs.jump_along.Tie as tie
 

@@ -1,17 +1,14 @@
+-- `maps::flag_line` meets its contract: a number up to 1. Assumes nothing.
 use Rattle.maps.proofs.Laws.{flag-is}
 use Rattle.text.specs.declared.Num.the-variants.{Whole, Wrong}
 use lib.ListN.{drop}
 use denote.Ref.{now}
 use borrow.Author.Tests.{lt-leb, le-leb}
-use native.Mathlib.Omega.{arith}
-use mathlib.Core.Bool.{Bool, true, false, cond}
-use mathlib.Core.Path.{_≡_, refl, sym, ap, _∙_}
+use mathlib.Core.Bool.{Bool, cond}
+use mathlib.Core.Path.{sym, ap, _∙_}
 use borrow.Author.Needs.{needs}
 use Rattle.maps.proofs.flag_line.Statement.{statement}
 use Rattle.maps.proofs.flag_line.Tie as tie
-use Rattle.maps.proofs.flag_line.Reads as reads
-use Rattle.maps.proofs.flag_line.Lts as lts
-use Rattle.text.proofs.number_line.Reads as number-line-reads
 
 number-line-requires : tie.Need-number-line-requires
 number-line-requires c κs = search needs

@@ -1,22 +1,19 @@
+-- `maps::read` meets its contract: the length, the header, then the rows. Assumes nothing.
 use Rattle.maps.proofs.Laws.{HBounded, head-fair, side-most, map-long, map-head, map-rows, map-cells}
-use Rattle.maps.specs.declared.Rows.the-variants.{Good, Bad as BadRow}
+use Rattle.rows.specs.declared.Rows.the-variants.{Good, Bad as BadRow}
 use Rattle.maps.specs.declared.Head.the-variants.{Of}
 use Rattle.maps.specs.declared.Header.{Header}
 use Rattle.cells.proofs.Cell.{area}
 use Rattle.maps.specs.Maps.{headOf}
-use lib.ListN.{length, drop}
+use lib.ListN.{length}
 use denote.Ref.{now}
 use native.Mathlib.Omega.{arith}
-use Prim.Native.Nat.{ℕ, _≤_}
+use Prim.Native.Nat.{ℕ}
 use mathlib.Core.List.{List}
-use mathlib.Core.Path.{_≡_, refl, sym, ap, _∙_, subst}
+use mathlib.Core.Path.{_≡_, sym, _∙_, subst}
 use borrow.Author.Needs.{needs}
 use Rattle.maps.proofs.read.Statement.{statement}
 use Rattle.maps.proofs.read.Tie as tie
-use Rattle.maps.proofs.read.Reads as reads
-use Rattle.maps.proofs.read.Lts as lts
-use Rattle.maps.proofs.read_head.Reads as read-head-reads
-use Rattle.maps.proofs.read_rows.Reads as read-rows-reads
 
 -- a header was read
 module _ (e : tie.After-head2) where

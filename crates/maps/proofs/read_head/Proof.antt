@@ -1,24 +1,21 @@
+-- `maps::read_head` meets its contract, line by line. Assumes nothing.
 use Rattle.maps.proofs.Laws.{SBounded, size-bounded, flag-bounded, side-most, head-from}
-use Rattle.maps.specs.Maps.{sizeLine, flagLine, widthWord, heightWord, diagonalWord, startWord, goalWord, afterWidth, afterHeight, afterDiagonal, afterStart, afterGoal, headOf}
-use Rattle.text.proofs.Steps.{Bounded, PBounded, point-line-bounded}
-use Rattle.text.specs.declared.Pair.the-variants.{Both, Neither}
+use Rattle.maps.specs.Maps.{sizeLine, flagLine, widthWord, heightWord, diagonalWord, startWord, goalWord, afterHeight, afterDiagonal, afterStart, afterGoal, headOf}
+use Rattle.text.proofs.Steps.{Bounded, PBounded}
+use Rattle.lines.proofs.Laws.{point-line-bounded}
+use Rattle.text.specs.declared.Pair.the-variants.{Both}
 use Rattle.text.specs.declared.Num.the-variants.{Whole, Wrong}
-use Rattle.text.specs.Grammar.{pointLine}
+use Rattle.lines.specs.Lines.{pointLine}
 use Rattle.points.specs.declared.Point.{Point}
 use lib.ListN.{length, drop, length-drop}
 use denote.Ref.{now}
 use native.Mathlib.Omega.{arith}
 use Prim.Native.Nat.{ℕ, _+_, _≤_}
 use mathlib.Core.List.{List}
-use mathlib.Core.Path.{_≡_, refl, sym, ap, _∙_, subst}
+use mathlib.Core.Path.{_≡_, sym, ap, _∙_, subst}
 use borrow.Author.Needs.{needs}
 use Rattle.maps.proofs.read_head.Statement.{statement}
 use Rattle.maps.proofs.read_head.Tie as tie
-use Rattle.maps.proofs.read_head.Reads as reads
-use Rattle.maps.proofs.read_head.Lts as lts
-use Rattle.maps.proofs.flag_line.Reads as flag-line-reads
-use Rattle.maps.proofs.size_line.Reads as size-line-reads
-use Rattle.text.proofs.point_line.Reads as point-line-reads
 
 -- after the width
 module _ (e : tie.After-w) where

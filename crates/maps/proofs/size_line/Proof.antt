@@ -1,18 +1,14 @@
+-- `maps::size_line` meets its contract: a number in the range of a side. Assumes nothing.
 use Rattle.maps.proofs.Laws.{size-is, sized-one}
 use Rattle.text.specs.declared.Num.the-variants.{Whole, Wrong}
 use lib.ListN.{drop}
 use denote.Ref.{now}
 use borrow.Author.Tests.{not-true, not-false}
-use native.Mathlib.Omega.{arith}
-use mathlib.Core.Bool.{Bool, true, false, cond}
-use mathlib.Core.Path.{_≡_, refl, sym, ap, _∙_}
+use mathlib.Core.Bool.{Bool, cond}
+use mathlib.Core.Path.{sym, ap, _∙_}
 use borrow.Author.Needs.{needs}
 use Rattle.maps.proofs.size_line.Statement.{statement}
 use Rattle.maps.proofs.size_line.Tie as tie
-use Rattle.maps.proofs.size_line.Reads as reads
-use Rattle.maps.proofs.size_line.Lts as lts
-use Rattle.cells.proofs.sized.Reads as sized-reads
-use Rattle.text.proofs.number_line.Reads as number-line-reads
 
 number-line-requires : tie.Need-number-line-requires
 number-line-requires c κs = search needs

@@ -1,16 +1,14 @@
+-- `paths::closer` meets its contract, by the sign. Assumes nothing.
 use Rattle.paths.proofs.Laws.{low-fits, high-fits, closer-in}
 use Rattle.paths.specs.Walks.{stepBy, closerTo}
 use Rattle.points.specs.Plane.{inRange}
 use mir.Facts.{toZ-ofZ}
 use lib.IntN.{ℤ, pos, _-ℤ_, _+ℤ_}
 use lib.Dec.{T}
-use mathlib.Core.Path.{_≡_, refl, sym, ap, _∙_, subst}
+use mathlib.Core.Path.{_≡_, sym, ap, _∙_, subst}
 use borrow.Author.Needs.{needs}
 use Rattle.paths.proofs.closer.Statement.{statement}
 use Rattle.paths.proofs.closer.Tie as tie
-use Rattle.paths.proofs.closer.Reads as reads
-use Rattle.paths.proofs.closer.Lts as lts
-use Rattle.points.proofs.sign_between.Reads as sign-between-reads
 
 sign-between-requires : tie.Need-sign-between-requires
 sign-between-requires c κs = search needs

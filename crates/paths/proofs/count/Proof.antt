@@ -1,19 +1,18 @@
-use Rattle.paths.proofs.Laws.{none-bad, legal-here, length-here, path-end, path-length, counted-over, counted-few}
-use Rattle.paths.specs.declared.Bad.the-variants.{Nowhere}
-use Rattle.paths.specs.Walks.{firstBad, pathFrom, pathOf, pointAt}
+-- `paths::count` meets its contract: the room that is left is held against the path from here on. The measure is the numbers that are left. Assumes nothing.
+use Rattle.pairs.proofs.Laws.{legal-here, none-bad}
+use Rattle.paths.proofs.Laws.{length-here, path-end, path-length, counted-over, counted-few}
+use Rattle.pairs.specs.declared.Bad.the-variants.{Nowhere}
+use Rattle.pairs.specs.Pairs.{firstBad, pointAt}
+use Rattle.paths.specs.Walks.{pathFrom, pathOf}
 use Rattle.points.specs.Plane.{legal}
 use lib.ListN.{length, drop}
 use lib.Dec.{T}
 use denote.Ref.{now}
 use native.Mathlib.Omega.{arith}
 use Prim.Native.Nat.{_+_, _*_, _-_, _%_, _≤_, _<_}
-use mathlib.Core.Path.{_≡_, refl, sym, ap, _∙_}
+use mathlib.Core.Path.{_≡_, refl, ap}
 use Rattle.paths.proofs.count.Statement.{statement}
 use Rattle.paths.proofs.count.Tie as tie
-use Rattle.paths.proofs.count.Reads as reads
-use Rattle.paths.proofs.count.Lts as lts
-use Rattle.paths.proofs.point_at.Reads as point-at-reads
-use Rattle.paths.proofs.span.Reads as span-reads
 
 abbrev Inv-loop : tie.InvT-loop
 Inv-loop list room left₀ p₀ i₀ left p i =
@@ -41,7 +40,7 @@ loop-holds c =
     let l = now (s .args .list) in
     let n = none-bad l 0 (omega arith) (s .pre .2) in
     let r = c .point-at .result in
-    (legal-here l 0 r r (c .point-at .ensures) (n .0), n .1, refl, omega arith, omega arith, omega (arith, path-length l r (c .point-at .ensures) (omega arith)))
+    (legal-here l 0 r (c .point-at .ensures) (n .0), n .1, refl, omega arith, omega arith, omega (arith, path-length l r (c .point-at .ensures) (omega arith)))
 
 point-at-requires-2 : tie.Need-point-at-requires-2 Inv-loop μ-loop
 point-at-requires-2 c κs = omega arith
@@ -51,7 +50,7 @@ span-requires c κs =
     let v = c .before .before .loop in
     let l = now (c .before .before .before .before .before .args .list) in
     let r = c .point-at2 .result in
-    (v .inv .0, legal-here l (v .i) r r (c .point-at2 .ensures) (none-bad l (v .i) (omega arith) (v .inv .1) .0))
+    (v .inv .0, legal-here l (v .i) r (c .point-at2 .ensures) (none-bad l (v .i) (omega arith) (v .inv .1) .0))
 
 returns-2 : tie.Need-returns-2 Inv-loop μ-loop
 returns-2 c =
@@ -73,7 +72,7 @@ loop-again c =
     let l = now (c .before .before .before .before .before .before .before .args .list) in
     let k = c .before .before .point-at2 in
     let n = none-bad l (v .i) (omega arith) (v .inv .1) in
-    (legal-here l (v .i) (k .result) (k .result) (k .ensures) (n .0), n .1, omega arith, omega arith, omega arith, omega (arith, length-here l (v .i) (v .p) (k .result) (k .ensures) (omega arith), c .before .span .ensures .0))
+    (legal-here l (v .i) (k .result) (k .ensures) (n .0), n .1, omega arith, omega arith, omega arith, omega (arith, length-here l (v .i) (v .p) (k .result) (k .ensures) (omega arith), c .before .span .ensures .0))
 
 sub-t11 : tie.Need-sub-t11 Inv-loop μ-loop
 sub-t11 c = omega arith

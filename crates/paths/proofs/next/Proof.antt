@@ -1,14 +1,12 @@
+-- `paths::next` meets its contract: one step of each coordinate. Assumes nothing.
 use mir.Val.{toZ, ofZ}
 use mir.Syntax.{w32}
 use Rattle.paths.proofs.Laws.{both-in}
 use Rattle.paths.specs.Walks.{closerTo}
 use Rattle.points.proofs.Signed.{parts, reads, read-in}
-use mathlib.Core.Path.{_≡_, _∙_}
+use mathlib.Core.Path.{_∙_}
 use Rattle.paths.proofs.next.Statement.{statement}
 use Rattle.paths.proofs.next.Tie as tie
-use Rattle.paths.proofs.next.Reads as reads
-use Rattle.paths.proofs.next.Lts as lts
-use Rattle.paths.proofs.closer.Reads as closer-reads
 
 closer-requires : tie.Need-closer-requires
 closer-requires c κs =

@@ -1,22 +1,19 @@
-use Rattle.paths.proofs.Laws.{none-bad, legal-here, length-here, stores-here, path-end, path-length, path-stores}
-use Rattle.paths.specs.declared.Bad.the-variants.{Nowhere}
-use Rattle.paths.specs.Walks.{firstBad, pathFrom}
+-- `paths::put_path` meets its contract: the path from here on gives the whole. The measure is the numbers that are left. Assumes nothing.
+use Rattle.pairs.proofs.Laws.{legal-here, none-bad}
+use Rattle.paths.proofs.Laws.{length-here, stores-here, path-end, path-length, path-stores}
+use Rattle.pairs.specs.declared.Bad.the-variants.{Nowhere}
+use Rattle.pairs.specs.Pairs.{firstBad}
+use Rattle.paths.specs.Walks.{pathFrom}
 use Rattle.points.specs.Plane.{legal}
 use lib.Seq.{sets}
 use lib.ListN.{length, drop}
 use lib.Dec.{T}
 use denote.Ref.{now}
 use native.Mathlib.Omega.{arith}
-use Prim.Native.Nat.{_+_, _*_, _-_, _%_, _≤_}
+use Prim.Native.Nat.{_+_, _-_, _%_, _≤_}
 use mathlib.Core.Path.{_≡_, refl, sym, ap, _∙_}
 use Rattle.paths.proofs.put_path.Statement.{statement}
 use Rattle.paths.proofs.put_path.Tie as tie
-use Rattle.paths.proofs.put_path.Reads as reads
-use Rattle.paths.proofs.put_path.Lts as lts
-use Rattle.paths.proofs.point_at.Reads as point-at-reads
-use Rattle.paths.proofs.put.Reads as put-reads
-use Rattle.paths.proofs.put_walk.Reads as put-walk-reads
-use Rattle.paths.proofs.span.Reads as span-reads
 
 abbrev Inv-loop : tie.InvT-loop
 Inv-loop list out₀ p₀ at₀ i₀ out p at i =
@@ -42,7 +39,7 @@ loop-holds c =
     let l = now (s .args .list) in
     let k = c .before .before .before .point-at in
     let n = none-bad l 0 (omega arith) (s .pre .2) in
-    (legal-here l 0 (k .result) (k .result) (k .ensures) (n .0), n .1, refl, omega arith, refl, omega (arith, path-length l (k .result) (k .ensures) (omega arith), c .before .put .kept .0, s .pre), refl)
+    (legal-here l 0 (k .result) (k .ensures) (n .0), n .1, refl, omega arith, refl, omega (arith, path-length l (k .result) (k .ensures) (omega arith), c .before .put .kept .0, s .pre), refl)
 
 point-at-requires-2 : tie.Need-point-at-requires-2 Inv-loop μ-loop
 point-at-requires-2 c κs = omega arith
@@ -52,14 +49,14 @@ span-requires c κs =
     let v = c .before .before .loop in
     let l = now (c .before .before .before .before .before .before .before .args .list) in
     let k = c .point-at2 in
-    (v .inv .0, legal-here l (v .i) (k .result) (k .result) (k .ensures) (none-bad l (v .i) (omega arith) (v .inv .1) .0))
+    (v .inv .0, legal-here l (v .i) (k .result) (k .ensures) (none-bad l (v .i) (omega arith) (v .inv .1) .0))
 
 put-walk-requires : tie.Need-put-walk-requires Inv-loop μ-loop
 put-walk-requires c κs =
     let v = c .before .before .before .before .loop in
     let l = now (c .before .before .before .before .before .before .before .before .before .args .list) in
     let k = c .before .before .point-at2 in
-    (v .inv .0, legal-here l (v .i) (k .result) (k .result) (k .ensures) (none-bad l (v .i) (omega arith) (v .inv .1) .0), omega (arith, length-here l (v .i) (v .p) (k .result) (k .ensures) (omega arith), c .before .span .ensures .0))
+    (v .inv .0, legal-here l (v .i) (k .result) (k .ensures) (none-bad l (v .i) (omega arith) (v .inv .1) .0), omega (arith, length-here l (v .i) (v .p) (k .result) (k .ensures) (omega arith), c .before .span .ensures .0))
 
 mul-at : tie.Need-mul-at Inv-loop μ-loop
 mul-at c = omega (arith, c .before .before .before .span .ensures .1)
@@ -85,7 +82,7 @@ loop-again c =
     let m = c .before .put-walk in
     let d = c .before .before .before .span in
     let n = none-bad l (v .i) (omega arith) (v .inv .1) in
-    (legal-here l (v .i) (k .result) (k .result) (k .ensures) (n .0), n .1, omega arith, omega arith, m .kept .0 ∙ v .inv .4, omega (arith, m .kept .0, length-here l (v .i) (v .p) (k .result) (k .ensures) (omega arith), d .ensures .0), stores-here l (v .i) (v .p) (k .result) (k .ensures) (v .out) (m .last .0) (v .at) (d .result) (d .ensures .0) (m .ensures) (omega arith) ∙ v .inv .6)
+    (legal-here l (v .i) (k .result) (k .ensures) (n .0), n .1, omega arith, omega arith, m .kept .0 ∙ v .inv .4, omega (arith, m .kept .0, length-here l (v .i) (v .p) (k .result) (k .ensures) (omega arith), d .ensures .0), stores-here l (v .i) (v .p) (k .result) (k .ensures) (v .out) (m .last .0) (v .at) (d .result) (d .ensures .0) (m .ensures) (omega arith) ∙ v .inv .6)
 
 same-length : tie.Need-same-length Inv-loop μ-loop
 same-length c = c .before .loop .inv .4 ∙ c .before .before .before .put .kept .0

@@ -1,20 +1,16 @@
+-- `paths::put_walk` meets its contract: the steps that are left give the whole walk. The measure is how many are left. Assumes nothing.
 use Rattle.paths.proofs.Laws.{walk-here, walk-done}
-use Rattle.paths.proofs.Laws.{walk-turn, walk-done}
+use Rattle.paths.proofs.Laws.{walk-done}
 use Rattle.paths.specs.Walks.{walkOf}
 use Rattle.points.specs.Plane.{legal}
 use lib.Seq.{sets}
-use lib.ListN.{length, length-set}
+use lib.ListN.{length}
 use lib.Dec.{T}
-use denote.Ref.{now}
 use native.Mathlib.Omega.{arith}
 use Prim.Native.Nat.{_+_, _*_, _-_, _≤_}
-use mathlib.Core.Path.{_≡_, refl, sym, ap, _∙_}
+use mathlib.Core.Path.{_≡_, refl, sym, _∙_}
 use Rattle.paths.proofs.put_walk.Statement.{statement}
 use Rattle.paths.proofs.put_walk.Tie as tie
-use Rattle.paths.proofs.put_walk.Reads as reads
-use Rattle.paths.proofs.put_walk.Lts as lts
-use Rattle.paths.proofs.next.Reads as next-reads
-use Rattle.paths.proofs.put.Reads as put-reads
 
 abbrev Inv-loop : tie.InvT-loop
 Inv-loop out₀ at q steps here₀ k₀ left₀ out here k left =

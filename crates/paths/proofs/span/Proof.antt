@@ -1,14 +1,11 @@
-use lib.IntN.{ℤ, natAbs, _-ℤ_}
-use Prim.Native.Nat.{ℕ}
-use mathlib.Core.Path.{_≡_, _∙_, ap}
+-- `paths::span` meets its contract: the longer of two differences. Assumes nothing.
+use lib.IntN.{natAbs, _-ℤ_}
+use mathlib.Core.Path.{_≡_, _∙_}
 use Rattle.points.proofs.Signed.{parts, reads, read-in}
 use native.Mathlib.Omega.{arith}
 use borrow.Author.Needs.{needs}
 use Rattle.paths.proofs.span.Statement.{statement}
 use Rattle.paths.proofs.span.Tie as tie
-use Rattle.paths.proofs.span.Reads as reads
-use Rattle.paths.proofs.span.Lts as lts
-use Rattle.points.proofs.gap.Reads as gap-reads
 
 gap-requires : tie.Need-gap-requires
 gap-requires c κs =

@@ -1,21 +1,14 @@
+-- `paths::waypoints_to_path` meets its contract: LIST, POINT, ROOM, then the path. Assumes nothing.
 use Rattle.paths.proofs.Laws.{few-room, answer-empty, answer-odd, answer-point, answer-counted}
 use Rattle.paths.specs.declared.Counted.the-variants.{Few, Over}
-use Rattle.paths.specs.declared.Bad.the-variants.{At, Nowhere}
-use Rattle.paths.specs.Walks.{firstBad, countedOf, pathOf, pathKept}
-use lib.Seq.{sets}
 use lib.ListN.{length}
 use denote.Ref.{now}
 use native.Mathlib.Omega.{arith}
-use Prim.Native.Nat.{_/_, _%_}
-use mathlib.Core.Path.{_≡_, refl, sym, ap, _∙_}
+use Prim.Native.Nat.{_/_}
+use mathlib.Core.Path.{refl, sym, _∙_}
 use borrow.Author.Needs.{needs}
 use Rattle.paths.proofs.waypoints_to_path.Statement.{statement}
 use Rattle.paths.proofs.waypoints_to_path.Tie as tie
-use Rattle.paths.proofs.waypoints_to_path.Reads as reads
-use Rattle.paths.proofs.waypoints_to_path.Lts as lts
-use Rattle.paths.proofs.bad_point.Reads as bad-point-reads
-use Rattle.paths.proofs.count.Reads as count-reads
-use Rattle.paths.proofs.put_path.Reads as put-path-reads
 
 returns : tie.Need-returns
 returns c =

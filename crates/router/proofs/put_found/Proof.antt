@@ -1,3 +1,4 @@
+-- `router::put_found` meets its contract, by what the check says. Assumes nothing.
 use Rattle.router.proofs.Laws.{by-text, Fine, checked-fine}
 use Rattle.router.specs.Route.{checkedText}
 use Rattle.floors.specs.Floors.{checkOf}
@@ -5,17 +6,10 @@ use Rattle.grid.specs.declared.Verdict.the-variants.{Yes, No, Refused}
 use Rattle.grid.specs.declared.Verdict.{Verdict}
 use denote.Ref.{now}
 use native.Mathlib.Omega.{arith}
-use Prim.Native.Nat.{ℕ}
-use mathlib.Core.Bool.{true, false}
-use mathlib.Core.Path.{_≡_, refl, sym, ap, _∙_, subst}
+use mathlib.Core.Path.{sym, ap, _∙_, subst}
 use borrow.Author.Needs.{needs}
 use Rattle.router.proofs.put_found.Statement.{statement}
 use Rattle.router.proofs.put_found.Tie as tie
-use Rattle.router.proofs.put_found.Reads as reads
-use Rattle.router.proofs.put_found.Lts as lts
-use Rattle.answers.proofs.put_answer.Reads as put-answer-reads
-use Rattle.floors.proofs.check_route.Reads as check-route-reads
-use Rattle.router.proofs.put_refused.Reads as put-refused-reads
 
 check-route-requires : tie.Need-check-route-requires
 check-route-requires c κs = search needs

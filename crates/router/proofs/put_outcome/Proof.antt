@@ -1,20 +1,16 @@
+-- `router::put_outcome` meets its contract: a refusal, or the route at the front of the list. Assumes nothing.
 use Rattle.router.proofs.Laws.{by-text}
 use Rattle.router.specs.Route.{Within, foundText, outcomeText}
 use Rattle.finder.specs.declared.Outcome.the-variants.{Found, Refused}
-use Rattle.finder.specs.declared.Outcome.{Outcome}
 use lib.Seq.{length-take-le}
-use lib.ListN.{length, take}
+use lib.ListN.{length}
 use denote.Ref.{now}
 use native.Mathlib.Omega.{arith}
-use Prim.Native.Nat.{ℕ, _*_, _≤_}
-use mathlib.Core.Path.{_≡_, refl, sym, ap, _∙_, subst}
+use Prim.Native.Nat.{_*_, _≤_}
+use mathlib.Core.Path.{sym, ap, subst}
 use borrow.Author.Needs.{needs}
 use Rattle.router.proofs.put_outcome.Statement.{statement}
 use Rattle.router.proofs.put_outcome.Tie as tie
-use Rattle.router.proofs.put_outcome.Reads as reads
-use Rattle.router.proofs.put_outcome.Lts as lts
-use Rattle.router.proofs.put_found.Reads as put-found-reads
-use Rattle.router.proofs.put_refused.Reads as put-refused-reads
 
 held : (e : tie.After-outcome2) → 2 * e .outcome2 .given .0 .0 ≤ length (now (e .before .before .before .args .list))
 held e =

@@ -1,21 +1,16 @@
+-- `router::put_refused` meets its contract: the number that the refusal is told as. Assumes nothing.
 use Rattle.router.proofs.Laws.{by-text, told-low}
 use Rattle.router.specs.Route.{refusedText}
 use Rattle.answers.specs.Answers.{answerText}
-use Rattle.paths.specs.Walks.{firstBad}
-use Rattle.points.specs.Refusals.{toldOf}
+use Rattle.pairs.specs.Pairs.{firstBad}
 use denote.Ref.{now}
 use native.Mathlib.Omega.{arith}
-use Prim.Native.Nat.{ℕ}
-use mathlib.Core.List.{List, []}
+use mathlib.Core.List.{[]}
 use mathlib.Core.Bool.{false}
-use mathlib.Core.Path.{_≡_, refl, sym, ap, _∙_}
+use mathlib.Core.Path.{refl, ap}
 use borrow.Author.Needs.{needs}
 use Rattle.router.proofs.put_refused.Statement.{statement}
 use Rattle.router.proofs.put_refused.Tie as tie
-use Rattle.router.proofs.put_refused.Reads as reads
-use Rattle.router.proofs.put_refused.Lts as lts
-use Rattle.answers.proofs.put_answer.Reads as put-answer-reads
-use Rattle.points.proofs.Refusal.told.Reads as told-reads
 
 told-requires : tie.Need-told-requires
 told-requires c κs = search needs

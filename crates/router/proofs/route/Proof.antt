@@ -4,7 +4,7 @@ use Rattle.router.specs.Route.{Within, blank, exactOf, outcomeText, sear
 use Rattle.floors.specs.Floors.{readOf}
 use Rattle.answers.specs.Answers.{badText}
 use Rattle.finder.specs.declared.Answer.{Answer}
-use Rattle.grid.specs.declared.Outcome.the-variants.{Done, Refused}
+use Rattle.grid.specs.declared.Outcome.the-variants.{Refused}
 use Rattle.grid.specs.Grids.{rebuildOutcome}
 use Rattle.cells.specs.Cells.{mostSide}
 use Rattle.points.specs.Refusals.{toldOf}
@@ -13,7 +13,7 @@ use denote.Ref.{now}
 use native.Mathlib.Omega.{arith}
 use Prim.Native.Nat.{ℕ, _+_, _≤_}
 use mathlib.Core.List.{List}
-use mathlib.Core.Path.{_≡_, refl, sym, ap, _∙_, subst}
+use mathlib.Core.Path.{_≡_, sym, ap, _∙_, subst}
 use borrow.Author.Needs.{needs}
 use Rattle.router.proofs.route.Statement.{statement}
 use Rattle.router.proofs.route.Tie as tie

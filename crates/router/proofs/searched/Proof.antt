@@ -1,18 +1,14 @@
-use Rattle.router.specs.Route.{settingsFor, room, exactOf}
+-- `router::searched` meets its contract: the search with a new grid's settings but for the diagonals. Assumes nothing.
+use Rattle.router.specs.Route.{room, exactOf}
 use Rattle.waypoints.specs.Waypoints.{singleOf, singlePlan}
 use Rattle.finder.specs.Find.{answerOf, outAfter}
-use Rattle.costs.specs.declared.Settings.{Settings}
 use lib.ListN.{length}
 use denote.Ref.{now}
 use mathlib.Core.Bool.{false}
-use mathlib.Core.Path.{_≡_, refl, sym, ap, _∙_}
+use mathlib.Core.Path.{_∙_}
 use borrow.Author.Needs.{needs}
 use Rattle.router.proofs.searched.Statement.{statement}
 use Rattle.router.proofs.searched.Tie as tie
-use Rattle.router.proofs.searched.Reads as reads
-use Rattle.router.proofs.searched.Lts as lts
-use Rattle.costs.proofs.Settings.new.Reads as new-reads
-use Rattle.waypoints.proofs.get_waypoints_single_goal.Reads as get-waypoints-single-goal-reads
 
 new-requires : tie.Need-new-requires
 new-requires c κs = search needs

@@ -4,9 +4,8 @@ use mathlib.Core.Bool.{true}
 use Prim.Native.Nat.{_*_}
 use native.Mathlib.Omega.{arith}
 use borrow.Author.Tests.{not-false}
-use Rattle.cells.proofs.Cell.{area}
-use Rattle.tables.specs.Tables.{Sides}
-use Rattle.tables.proofs.Joins.{sides-of}
+use Rattle.cells.proofs.Cell.{area, sides-of}
+use Rattle.cells.specs.Cells.{Sides}
 use borrow.Author.Needs.{needs}
 use Rattle.show.proofs.put.Statement.{statement}
 use Rattle.show.proofs.put.Tie as tie

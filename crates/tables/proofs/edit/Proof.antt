@@ -1,5 +1,5 @@
 -- `tables::edit` meets its contract. Assumes nothing.
-use Rattle.tables.proofs.Joins
+use Rattle.tables.proofs.Changes
 use Rattle.cells.proofs.Cell.{inside, area}
 use native.Mathlib.Omega.{arith}
 use mathlib.Core.Path.{_∙_, sym}
@@ -31,7 +31,7 @@ same-length-3 c = search needs
 returns : tie.Need-returns
 returns c =
     let g = c .before .before .before .before .before .before .edit-cell .ensures in
-    Joins.edit-marks _ _ _ _ _ _ _ _ _ _ (g .0) (g .1 .0) (g .1 .1) (sym (c .before .before .before .before .before .before .before .before .before .before .before .blocks-free .ensures) ∙ c .before .before .before .before .before .before .before .before .before .before .if1 .taken)
+    Changes.edit-marks _ _ _ _ _ _ _ _ _ _ (g .0) (g .1 .0) (g .1 .1) (sym (c .before .before .before .before .before .before .before .before .before .before .before .blocks-free .ensures) ∙ c .before .before .before .before .before .before .before .before .before .before .if1 .taken)
 
 join-around-requires : tie.Need-join-around-requires
 join-around-requires c κs = search needs
@@ -57,7 +57,7 @@ same-length-8 c = search needs
 returns-2 : tie.Need-returns-2
 returns-2 c =
     let g = c .before .before .before .before .before .before .edit-cell2 .ensures in
-    Joins.edit-joins _ _ _ _ _ _ _ _ _ _ (g .0) (g .1 .0) (g .1 .1) _ _ (sym (c .before .before .before .before .before .before .before .before .before .before .before .before .before .before .before .before .before .before .before .blocks-free .ensures) ∙ c .before .before .before .before .before .before .before .before .before .before .before .before .before .before .before .before .before .before .if1 .left) (c .before .before .before .before .before .before .before .before .before .before .before .before .before .before .join-around .ensures)
+    Changes.edit-joins _ _ _ _ _ _ _ _ _ _ (g .0) (g .1 .0) (g .1 .1) _ _ (sym (c .before .before .before .before .before .before .before .before .before .before .before .before .before .before .before .before .before .before .before .blocks-free .ensures) ∙ c .before .before .before .before .before .before .before .before .before .before .before .before .before .before .before .before .before .before .if1 .left) (c .before .before .before .before .before .before .before .before .before .before .before .before .before .before .join-around .ensures)
 
 pub edit-spec : {M : Type 1} → statement M
 edit-spec =

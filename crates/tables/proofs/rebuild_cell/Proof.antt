@@ -1,5 +1,5 @@
 -- `tables::rebuild_cell` meets its contract. Assumes nothing.
-use Rattle.tables.proofs.Joins
+use Rattle.tables.proofs.Changes
 use Rattle.cells.proofs.Cell.{inside, area}
 use native.Mathlib.Omega.{arith}
 use mathlib.Core.Path.{_∙_}
@@ -26,10 +26,10 @@ same-length-2 : tie.Need-same-length-2
 same-length-2 c = search needs
 
 returns : tie.Need-returns
-returns c = c .before .before .before .before .join-ahead .ensures ∙ Joins.cell-free _ _ _ _ _ _ _ (c .before .before .before .before .before .before .before .if1 .taken)
+returns c = c .before .before .before .before .join-ahead .ensures ∙ Changes.cell-free _ _ _ _ _ _ _ (c .before .before .before .before .before .before .before .if1 .taken)
 
 returns-2 : tie.Need-returns-2
-returns-2 c = Joins.cell-blocked _ _ _ _ _ _ _ (c .if1 .left)
+returns-2 c = Changes.cell-blocked _ _ _ _ _ _ _ (c .if1 .left)
 
 pub rebuild-cell-spec : {M : Type 1} → statement M
 rebuild-cell-spec =

@@ -1,7 +1,8 @@
 -- `tables::rebuild_column` meets its contract. Assumes nothing.
-use Rattle.tables.proofs.Joins
+use Rattle.joins.proofs.Joins
+use Rattle.tables.proofs.Changes
 use Rattle.tables.specs.Tables.{columnTo, mostRank}
-use Rattle.components.proofs.State.{ended}
+use Rattle.components.proofs.Loops.{ended}
 use Rattle.components.proofs.Roots
 use Rattle.components.specs.Components.{Links}
 use native.Mathlib.Omega.{arith}
@@ -19,7 +20,7 @@ abbrev μ-loop : tie.MeasureT-loop
 μ-loop w h diagonal blocked parent₀ rank₀ x y₀ parent rank y = h - y
 
 loop-holds : tie.Need-loop-holds Inv-loop μ-loop
-loop-holds c = let s = c .before .before .before in (omega arith, record { light = s .pre .3; long-p = refl; long-k = refl }, Joins.column-none _ _ _ _ _ _)
+loop-holds c = let s = c .before .before .before in (omega arith, record { light = s .pre .3; long-p = refl; long-k = refl }, Changes.column-none _ _ _ _ _ _)
 
 rebuild-cell-requires : tie.Need-rebuild-cell-requires Inv-loop μ-loop
 rebuild-cell-requires c κs =
@@ -38,7 +39,7 @@ loop-again c =
     let s = c .before .before .before .before .before .before .before .before .before .before .before .before in
     let v = c .before .before .before .before .before .before .before .before .loop in
     let g = c .before .before .before .before .rebuild-cell in
-    (omega arith, rw (g .ensures) (Joins.held-cell (omega arith) _ _ _ _ _ _ _ (s .pre .1) (c .before .before .before .before .before .before .before .loop-test .taken) _ (v .inv .1)), Joins.column-turn _ _ _ _ _ (v .y) _ _ _ (v .inv .2) (g .ensures))
+    (omega arith, rw (g .ensures) (Changes.held-cell (omega arith) _ _ _ _ _ _ _ (s .pre .1) (c .before .before .before .before .before .before .before .loop-test .taken) _ (v .inv .1)), Changes.column-turn _ _ _ _ _ (v .y) _ _ _ (v .inv .2) (g .ensures))
 
 same-length : tie.Need-same-length Inv-loop μ-loop
 same-length c = c .before .loop .inv .1 .long-p

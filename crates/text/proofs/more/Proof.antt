@@ -1,4 +1,5 @@
-use mathlib.Core.Path.{_≡_, refl, sym, ap, _∙_}
+-- `text::more` meets its contract: what is read from each place on is what is read from the start. The measure is the bytes that are left. Assumes nothing.
+use mathlib.Core.Path.{_≡_, sym, ap, _∙_}
 use Prim.Native.Nat.{ℕ, _+_, _-_, _*_, _≤_, _<_}
 use native.Mathlib.Omega.{arith}
 use borrow.Author.Needs.{needs}
@@ -8,9 +9,6 @@ use Rattle.text.specs.Grammar.{moreOf}
 use Rattle.text.proofs.Steps.{is-digit, too-low, too-high, more-end, more-stop, more-over, more-step}
 use Rattle.text.proofs.more.Statement.{statement}
 use Rattle.text.proofs.more.Tie as tie
-use Rattle.text.proofs.more.Reads as reads
-use Rattle.text.proofs.more.Lts as lts
-use Rattle.text.proofs.wide.Reads as wide-reads
 
 abbrev Inv-loop : tie.InvT-loop
 Inv-loop s start limit first acc₀ i₀ acc i =

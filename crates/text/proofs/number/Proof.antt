@@ -1,5 +1,6 @@
+-- `text::number` meets its contract, by the first byte. Assumes nothing.
 use borrow.Author.Needs.{needs}
-use mathlib.Core.Path.{_≡_, sym, ap, _∙_}
+use mathlib.Core.Path.{sym, ap, _∙_}
 use Prim.Native.Nat.{ℕ, _+_, _-_}
 use native.Mathlib.Omega.{arith}
 use denote.Ref.{now}
@@ -8,10 +9,6 @@ use Rattle.text.specs.Grammar.{moreOf}
 use Rattle.text.proofs.Steps.{is-digit, too-low, too-high, number-end, number-zero, number-wrong, number-more}
 use Rattle.text.proofs.number.Statement.{statement}
 use Rattle.text.proofs.number.Tie as tie
-use Rattle.text.proofs.number.Reads as reads
-use Rattle.text.proofs.number.Lts as lts
-use Rattle.text.proofs.more.Reads as more-reads
-use Rattle.text.proofs.wide.Reads as wide-reads
 
 returns : tie.Need-returns
 returns c = let a = c .before .before .args in sym (number-end (a .limit) (now (a .s)) (a .at) (c .if1 .taken))

@@ -1,23 +1,18 @@
-use mathlib.Core.Path.{_≡_, refl, sym, ap, _∙_, subst}
-use Prim.Native.Nat.{ℕ, _+_, _≤_, _<_}
+-- `text::pair_at` meets its contract: a coordinate, a comma, a coordinate. Assumes nothing.
+use mathlib.Core.Path.{_≡_, sym, ap, _∙_, subst}
+use Prim.Native.Nat.{ℕ, _+_}
 use native.Mathlib.Omega.{arith}
 use denote.Ref.{now}
-use lib.Dec.{T}
 use lib.IntN.{ℤ}
-use lib.ListN.{length, drop, getD, length-drop}
-use Rattle.points.specs.Plane.{inRange}
-use Rattle.points.specs.declared.Point.{Point}
+use lib.ListN.{length, drop, length-drop}
 use Rattle.points.proofs.Signed.{read-in}
 use Rattle.text.specs.Grammar.{coordOf, second}
-use Rattle.text.specs.declared.Coord.the-variants.{At, Off}
-use Rattle.text.specs.declared.Pair.the-variants.{Both, Neither}
+use Rattle.text.specs.declared.Coord.the-variants.{At}
+use Rattle.text.specs.declared.Pair.the-variants.{Both}
 use Rattle.text.proofs.Steps.{CBounded, coord-bounded, pair-off, pair-short, pair-other, pair-comma}
 use borrow.Author.Needs.{needs}
 use Rattle.text.proofs.pair_at.Statement.{statement}
 use Rattle.text.proofs.pair_at.Tie as tie
-use Rattle.text.proofs.pair_at.Reads as reads
-use Rattle.text.proofs.pair_at.Lts as lts
-use Rattle.text.proofs.coordinate.Reads as coordinate-reads
 
 -- the first coordinate
 module _ (e : tie.After-x) where

@@ -1,13 +1,13 @@
 //! checks SEED [ROUNDS]: route checks, as a list.
 //!
-//! A block, after the kind byte 2:
+//! A block, after the list's kind and a byte 2:
 //!   width, height (u8 each), count of cells (u16), a bit for each cell, row by row, least bit first, set where it is blocked; count (u16) of
 //!   numbers, each i16: the waypoints, x and y in turn;
 //!   answer: result (u8: 0, or 13 LIST, 14 POINT), the point that POINT carries (two i16, else 0 0), 1 if clear (u8)
 //! The route check is document 01's: the Rust has none.
 use grid_util::point::Point;
 use tools::judge::list_refused;
-use tools::list::{Block, List};
+use tools::list::{Block, List, CHECKS};
 use tools::make::{any_numbers, points_of};
 use tools::Rng;
 
@@ -31,7 +31,7 @@ fn check(r: &mut Rng) -> Block {
 
 fn main() {
     let (mut r, rounds) = tools::list::asked("checks");
-    let mut out = List::out();
+    let mut out = List::out(CHECKS);
     for _ in 0..600 * rounds {
         out.put(&check(&mut r));
     }

@@ -1,6 +1,6 @@
 //! ground SEED [ROUNDS]: the Rust's masks, directions and distances as a list (see oracle/README.md for blocks).
 //!
-//! Block kinds, after the kind byte:
+//! Block kinds, a byte after the list's kind:
 //!   1  the forced mask of each neighbour mask 0..255, a byte each
 //!   2  the pruned masks with diagonals on, a byte each, at direction * 256 + neighbour mask
 //!   3  the same with diagonals off
@@ -14,7 +14,7 @@
 //! Refusals are document 01's (POINT, SETTING, SAME); the Rust panics at SAME and has no other.
 use grid_util::direction::Direction;
 use tools::ground::*;
-use tools::list::{Block, List};
+use tools::list::{Block, List, GROUND};
 use tools::Rng;
 
 /// points to a block of kinds 6, 7 and 8
@@ -105,7 +105,7 @@ fn round(out: &mut List, r: &mut Rng) {
 
 fn main() {
     let (mut r, rounds) = tools::list::asked("ground");
-    let mut out = List::out();
+    let mut out = List::out(GROUND);
     masks(&mut out);
     compass(&mut out);
     for _ in 0..rounds {

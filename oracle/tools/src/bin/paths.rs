@@ -1,6 +1,6 @@
 //! paths SEED [ROUNDS]: waypoint lists and the paths that the Rust makes of them, as a list.
 //!
-//! A block, after the kind byte 1:
+//! A block, after the list's kind and a byte 1:
 //!   room in points (u32); count (u16) of numbers, each i16: the waypoints, x and y in turn;
 //!   answer: result (u8: 0, or 13 LIST, 14 POINT, 10 ROOM), the point that POINT carries (two i16, else 0 0),
 //!   path (count u16, two i16 each)
@@ -8,7 +8,7 @@
 use grid_pathfinding::waypoints_to_path;
 use grid_util::point::Point;
 use tools::judge::list_refused;
-use tools::list::{Block, List};
+use tools::list::{Block, List, PATHS};
 use tools::make::{any_numbers, points_of};
 use tools::Rng;
 
@@ -38,7 +38,7 @@ fn path(r: &mut Rng) -> Block {
 }
 fn main() {
     let (mut r, rounds) = tools::list::asked("paths");
-    let mut out = List::out();
+    let mut out = List::out(PATHS);
     for _ in 0..600 * rounds {
         out.put(&path(&mut r));
     }

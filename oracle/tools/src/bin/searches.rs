@@ -1,6 +1,6 @@
 //! searches SEED [ROUNDS]: grids, and searches on them with the Rust's answers, as a list.
 //!
-//! Block kinds, after the kind byte:
+//! Block kinds, a byte after the list's kind:
 //!   0  a grid by calls: width, height, diagonals during the calls (u8 each), count of cells (u16); a bit for each cell, row by row, least bit
 //!      first, set where the cell is set blocked (in that order, on a new grid); 1 if then rebuilt (u8); count (u16) of later
 //!      edits, each x, y, blocked (u8 each)
@@ -17,7 +17,7 @@ use grid_util::grid::ValueGrid;
 use grid_util::point::Point;
 use std::collections::BTreeMap;
 use tools::judge::{Ask, Both, Tables, APPROXIMATE, EXACT, SEVERAL};
-use tools::list::{Block, List};
+use tools::list::{Block, List, SEARCHES};
 use tools::make::{any_tables, gen_map, illegal_tables, KINDS};
 use tools::maps::Map;
 use tools::stats::{Limits, LARGEST};
@@ -256,7 +256,7 @@ fn round(asker: &mut Asker, r: &mut Rng) {
 fn main() {
     let (mut r, rounds) = tools::list::asked("searches");
     let mut asker = Asker {
-        out: List::out(),
+        out: List::out(SEARCHES),
         counts: BTreeMap::new(),
         given_up: 0,
         most_pops: 0,

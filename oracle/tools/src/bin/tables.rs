@@ -1,6 +1,6 @@
 //! tables SEED [ROUNDS]: runs of new, set, update and rebuild, and the Rust's tables after every step, as a list.
 //!
-//! A block is a step:
+//! A block is a step; after the list's kind:
 //!   kind and three arguments (u8 each):
 //!     0  a new grid: width, height, 0
 //!     1  set: x, y, blocked
@@ -23,7 +23,7 @@
 use grid_util::grid::ValueGrid;
 use grid_util::point::Point;
 use tools::judge::{in_range, Both, Tables, SIDE};
-use tools::list::{Block, List};
+use tools::list::{Block, List, TABLES};
 use tools::make::{any_tables, illegal_tables};
 use tools::Rng;
 
@@ -271,7 +271,7 @@ fn main() {
         told: raw(1, 1, 1),
         illegal: None,
         bytes: vec![],
-        out: List::out(),
+        out: List::out(TABLES),
     };
     for _ in 0..rounds {
         round(&mut run, r);

@@ -1,8 +1,8 @@
 //! texts SEED COUNT: map texts, whole and damaged, and what document 01 says that `route` prints, as a list.
 //!
-//! A block: text's length (u16), the text, and after it what is printed, to the block's end.
+//! A block, after the list's kind: text's length (u16), the text, and then what is printed, to the block's end.
 //! Result, pops and waypoints are the Rust's; the reading of the text and the refusal MAP are document 01's.
-use tools::list::{Block, List};
+use tools::list::{Block, List, TEXTS};
 use tools::make::{damage, gen_map, text_case};
 use tools::{maps, stats, Rng};
 
@@ -12,7 +12,7 @@ fn main() {
         .map(|s| s.parse().unwrap())
         .collect();
     let (seed, count) = (a[0], a[1]);
-    let mut out = List::out();
+    let mut out = List::out(TEXTS);
     let mut r = Rng(seed);
     for i in 0..count {
         // every other text is a damaged small one

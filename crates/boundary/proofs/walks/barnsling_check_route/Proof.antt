@@ -1,7 +1,7 @@
 -- `boundary::walks::barnsling_check_route` meets its contract: STATE, then the check. Assumes nothing.
 use mathlib.Core.Path.{sym, ap, _∙_}
 use borrow.Author.Tests.{not-true, not-false}
-use Rattle.boundary.specs.Walks.{verdictReply}
+use Rattle.replies.specs.Replies.{verdictReply}
 use Rattle.boundary.proofs.Lent as L
 use Rattle.boundary.proofs.Checks.{check-state, check-ground}
 use borrow.Author.Needs.{needs}

@@ -2,7 +2,7 @@
 use mathlib.Core.Path.{ap, _∙_}
 use Rattle.paths.specs.declared.Written.{Written}
 use Rattle.paths.specs.Walks.{pathKept}
-use Rattle.boundary.specs.Walks.{writtenReply}
+use Rattle.replies.specs.Replies.{writtenReply}
 use borrow.Author.Needs.{needs}
 use Rattle.boundary.proofs.walks.barnsling_waypoints_to_path.Statement.{statement}
 use Rattle.boundary.proofs.walks.barnsling_waypoints_to_path.Tie as tie

@@ -5,8 +5,9 @@ use mathlib.Core.Path.{_∙_}
 use Prim.Native.Nat.{_-_}
 use lib.ListN.{length}
 use Rattle.offers.proofs.Rounds.{Rounds, round-start, round-turn, round-halt, round-end}
-use Rattle.expansion.specs.Start.{towardOf, spreadOf}
-use Rattle.expansion.proofs.Starts.{toward-fit}
+use Rattle.starts.specs.Start.{towardOf}
+use Rattle.starts.proofs.Starts.{toward-fit}
+use Rattle.expansion.specs.Start.{spreadOf}
 use Rattle.expansion.proofs.start.spread.Statement.{statement}
 use Rattle.expansion.proofs.start.spread.Tie as tie
 

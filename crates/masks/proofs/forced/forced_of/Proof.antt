@@ -33,7 +33,7 @@ cast-result : tie.Need-cast-result
 cast-result c = search needs
 
 returns : tie.Need-returns
-unfolding same forcedOf bitAnd bitOr
+unfolding same forcedOf
 returns c = eqb→eq (turnedAt (c .args .m)) (forcedOf (c .args .m)) (at same (replicate {A = ℕ} 256 0) tt (c .args .m) (omega arith))
 
 pub forced-of-spec : {M : Type 1} → statement M

@@ -7,7 +7,7 @@ use native.Mathlib.Nat.{mod-lt}
 use lib.Dec.{lit<}
 use Rattle.points.specs.Compass.{splitAt}
 use Rattle.points.specs.declared.Parts.the-variants.{Whole}
-use Rattle.points.proofs.Eight.{by-eight}
+use Rattle.directions.proofs.Eight.{by-eight}
 use Rattle.points.proofs.Direction.split.Statement.{statement}
 use Rattle.points.proofs.Direction.split.Tie as tie
 

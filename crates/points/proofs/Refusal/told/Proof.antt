@@ -1,121 +1,98 @@
--- `points::Refusal::told` meets its contract: each refusal is told by the match. Assumes nothing.
+-- `points::Refusal::told` meets its contract: each refusal that carries a value is told by the match, the others by their number alone. Assumes nothing.
+use mathlib.Core.Path.{_≡_, refl, sym, ap, _∙_}
+use mathlib.Core.List as list
+use mathlib.Core.List.{[], _∷_}
+use Prim.Native.Nat.{ℕ}
 use borrow.Author.Needs.{needs}
+use denote.Enum.Declared.{tagOf}
+use types.Run.{OneOf, miss}
+use Rattle.points.specs.Refusals.{bare, pointed, lined, toldOf}
+use Rattle.points.specs.declared.Refusal.{Refusal}
+use Rattle.points.specs.declared.Refusal.the-variants.{Size, State, Setting, NoRoute, Goals, Exhausted, Depth, Fringe, Pops, Room, Same, Map, List, BadPoint}
+use Rattle.points.proofs.Refusal.{the-type}
 use Rattle.points.proofs.Refusal.told.Statement.{statement}
 use Rattle.points.proofs.Refusal.told.Tie as tie
 
-enum-told : tie.Need-enum-told
-enum-told c = search needs
+-- a refusal's number in the definition
+abbrev number : Refusal → ℕ
+number r = toldOf r .number
 
-enum-told-2 : tie.Need-enum-told-2
-enum-told-2 c = search needs
+-- the places of those that carry nothing
+abbrev plain : list.List ℕ
+plain = 0 ∷ 1 ∷ 2 ∷ 3 ∷ 4 ∷ 5 ∷ 6 ∷ 7 ∷ 8 ∷ 9 ∷ 12 ∷ []
 
-enum-told-3 : tie.Need-enum-told-3
-enum-told-3 c = search needs
+-- they are told by their number alone
+alone : (r : Refusal) → OneOf plain (tagOf the-type r) → bare (toldOf r .number) ≡ toldOf r
+alone Size h = refl
+alone State h = refl
+alone Setting h = refl
+alone NoRoute h = refl
+alone Goals h = refl
+alone Exhausted h = refl
+alone Depth h = refl
+alone Fringe h = refl
+alone Pops h = refl
+alone Room h = refl
+alone (Same p) h = absurd (miss plain 10 tt h)
+alone (Map n) h = absurd (miss plain 11 tt h)
+alone List h = refl
+alone (BadPoint p) h = absurd (miss plain 13 tt h)
 
-enum-told-4 : tie.Need-enum-told-4
-enum-told-4 c = search needs
-
-enum-told-5 : tie.Need-enum-told-5
-enum-told-5 c = search needs
-
-enum-told-6 : tie.Need-enum-told-6
-enum-told-6 c = search needs
-
-enum-told-7 : tie.Need-enum-told-7
-enum-told-7 c = search needs
-
-enum-told-8 : tie.Need-enum-told-8
-enum-told-8 c = search needs
-
-enum-told-9 : tie.Need-enum-told-9
-enum-told-9 c = search needs
-
-enum-told-10 : tie.Need-enum-told-10
-enum-told-10 c = search needs
+number-requires : tie.Need-number-requires
+number-requires c κs = search needs
 
 enum-known-self : tie.Need-enum-known-self
 enum-known-self c = search needs
 
+pointed-requires : tie.Need-pointed-requires
+pointed-requires c κs = search needs
+
 enum-known-self-2 : tie.Need-enum-known-self-2
 enum-known-self-2 c = search needs
 
-enum-told-11 : tie.Need-enum-told-11
-enum-told-11 c = search needs
+lined-requires : tie.Need-lined-requires
+lined-requires c κs = search needs
 
 enum-known-self-3 : tie.Need-enum-known-self-3
 enum-known-self-3 c = search needs
 
+pointed-requires-2 : tie.Need-pointed-requires-2
+pointed-requires-2 c κs = search needs
+
+bare-requires : tie.Need-bare-requires
+bare-requires c κs = search needs
+
 returns : tie.Need-returns
-returns c = rw (c .enum-told .given .1)
+returns c =
+    let e = c .before .before .self .given .1 in
+    c .pointed .ensures ∙ ap (λ (n : ℕ). pointed n (c .before .before .self .given .0 .0)) (c .before .before .before .before .number .ensures ∙ ap number e) ∙ ap toldOf (sym e)
 
 returns-2 : tie.Need-returns-2
-returns-2 c = rw (c .enum-told2 .given .1)
+returns-2 c =
+    let e = c .before .before .self2 .given .1 in
+    c .lined .ensures ∙ ap (λ (n : ℕ). lined n (c .before .before .self2 .given .0 .0)) (c .before .before .before .before .number .ensures ∙ ap number e) ∙ ap toldOf (sym e)
 
 returns-3 : tie.Need-returns-3
-returns-3 c = rw (c .enum-told3 .given .1)
+returns-3 c =
+    let e = c .before .before .self3 .given .1 in
+    c .pointed2 .ensures ∙ ap (λ (n : ℕ). pointed n (c .before .before .self3 .given .0 .0)) (c .before .before .before .before .number .ensures ∙ ap number e) ∙ ap toldOf (sym e)
 
 returns-4 : tie.Need-returns-4
-returns-4 c = rw (c .enum-told4 .given .1)
-
-returns-5 : tie.Need-returns-5
-returns-5 c = rw (c .enum-told5 .given .1)
-
-returns-6 : tie.Need-returns-6
-returns-6 c = rw (c .enum-told6 .given .1)
-
-returns-7 : tie.Need-returns-7
-returns-7 c = rw (c .enum-told7 .given .1)
-
-returns-8 : tie.Need-returns-8
-returns-8 c = rw (c .enum-told8 .given .1)
-
-returns-9 : tie.Need-returns-9
-returns-9 c = rw (c .enum-told9 .given .1)
-
-returns-10 : tie.Need-returns-10
-returns-10 c = rw (c .enum-told10 .given .1)
-
-returns-11 : tie.Need-returns-11
-returns-11 c = rw (c .before .self .given .1)
-
-returns-12 : tie.Need-returns-12
-returns-12 c = rw (c .before .self2 .given .1)
-
-returns-13 : tie.Need-returns-13
-returns-13 c = rw (c .enum-told11 .given .1)
-
-returns-14 : tie.Need-returns-14
-returns-14 c = rw (c .before .self3 .given .1)
+returns-4 c = c .bare .ensures ∙ ap bare (c .before .before .number .ensures) ∙ alone (c .before .before .before .args .self) (c .before .match .keys4)
 
 pub told-spec : {M : Type 1} → statement M
 told-spec =
     tie.close
     (tie.spec
-    enum-told
-    enum-told-2
-    enum-told-3
-    enum-told-4
-    enum-told-5
-    enum-told-6
-    enum-told-7
-    enum-told-8
-    enum-told-9
-    enum-told-10
+    number-requires
     enum-known-self
+    pointed-requires
     enum-known-self-2
-    enum-told-11
+    lined-requires
     enum-known-self-3
+    pointed-requires-2
+    bare-requires
     returns
     returns-2
     returns-3
-    returns-4
-    returns-5
-    returns-6
-    returns-7
-    returns-8
-    returns-9
-    returns-10
-    returns-11
-    returns-12
-    returns-13
-    returns-14)
+    returns-4)

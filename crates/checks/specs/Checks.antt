@@ -1,0 +1,42 @@
+-- The route check: clear exactly if every waypoint after the first is inside and free. A list of points is a list of numbers, x and y in turn.
+-- Assumes nothing: these are definitions.
+use mathlib.Core.Bool.{Bool, true, _&&_, cond}
+use mathlib.Core.List.{List, [], _∷_}
+use Prim.Native.Nat.{ℕ, _*_, _%_}
+use lib.Dec.{ltb, eqb}
+use lib.IntN.{ℤ}
+use lib.ListN.{length, getD, drop}
+use Rattle.points.specs.declared.Point.{Point}
+use Rattle.points.specs.declared.Refusal.the-variants.{List as ListBroken, BadPoint}
+use Rattle.cells.specs.Cells.{cellOf}
+use Rattle.grid.specs.declared.Verdict.{Verdict}
+use Rattle.grid.specs.declared.Verdict.the-variants.{Yes, No, Refused}
+use Rattle.pairs.specs.Pairs.{point, firstBad}
+use Rattle.pairs.specs.declared.Bad.{Bad}
+use Rattle.pairs.specs.declared.Bad.the-variants.{At, Nowhere}
+
+-- a point is inside and free
+unfoldable pub freeAt : ℕ → ℕ → List ℕ → Point → Bool
+freeAt w h blocked p = ltb (cellOf w h p) (w * h) && eqb (getD blocked (cellOf w h p) 0) 0
+
+-- every point of a list is inside and free
+unfoldable pub allFree : ℕ → ℕ → List ℕ → List ℤ → Bool
+allFree w h blocked [] = true
+allFree w h blocked (x ∷ []) = true
+allFree w h blocked (x ∷ y ∷ l) = freeAt w h blocked (point x y) && allFree w h blocked l
+
+-- every waypoint after the first is inside and free
+abbrev pub clearOf : ℕ → ℕ → List ℕ → List ℤ → Bool
+clearOf w h blocked l = allFree w h blocked (drop 2 l)
+
+-- clear exactly if every waypoint after the first is inside and free
+abbrev pub judged : Bad → Bool → Verdict
+judged (At p) clear = Refused (BadPoint p)
+judged Nowhere clear = cond clear Yes No
+
+-- LIST, POINT, over the cells of a grid
+unfoldable pub checkIn : ℕ → ℕ → List ℕ → List ℤ → Verdict
+checkIn w h blocked l =
+    cond (eqb (length l) 0) (Refused ListBroken)
+    (cond (eqb (length l % 2) 1) (Refused ListBroken)
+    (judged (firstBad l) (clearOf w h blocked l)))

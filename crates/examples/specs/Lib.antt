@@ -1,0 +1,8 @@
+-- The examples that are computed from the definitions: document 01's table of proved examples, and then by subject.
+pub mod Proved
+pub mod Ground
+pub mod Jumps
+pub mod Searches
+pub mod Texts
+pub mod Tables
+pub mod Lists

@@ -1,0 +1,170 @@
+-- Lines, map texts, paths, route checks, what is printed, and the numbers for C and Rust: what the definitions that the contracts cite give at small inputs.
+-- Assumes nothing: these are statements. Each rules out the wrong answer that its line names.
+use mathlib.Core.Path.{_≡_}
+use mathlib.Core.Bool.{true, false}
+use mathlib.Core.List.{List, [], _∷_, _++_}
+use Prim.Native.Nat.{ℕ, _*_, _%_}
+use lib.IntN.{ℤ, pos, negsuc}
+use lib.ListN.{length}
+use Rattle.points.specs.declared.Point.{Point}
+use Rattle.points.specs.declared.Refusal.the-variants as refusal
+use Rattle.costs.specs.Scale.{one, scaledOf}
+use Rattle.masks.specs.Masks.{prunedIn}
+use Rattle.grid.specs.Grids.{legalOf}
+use Rattle.grid.specs.declared.Grid.{Grid}
+use Rattle.grid.specs.declared.Verdict.{Verdict}
+use Rattle.grid.specs.declared.Verdict.the-variants as verdict
+use Rattle.text.specs.Grammar.{numberOf, coordOf}
+use Rattle.text.specs.declared.Num.the-variants.{Whole, Wrong}
+use Rattle.text.specs.declared.Coord.the-variants.{At, Off}
+use Rattle.lines.specs.Lines.{numberLine}
+use Rattle.printing.specs.Render.{digitsOf, coordText}
+use Rattle.rows.specs.Rows.{rowsOf, cellsOf}
+use Rattle.rows.specs.declared.Rows.the-variants as rows
+use Rattle.maps.specs.Maps.{widthWord, flagLine, diagonalWord, headOf, withHead, mapOf}
+use Rattle.maps.specs.declared.Header.{Header}
+use Rattle.maps.specs.declared.Reading.the-variants as reading
+use Rattle.map_printing.specs.Shown.{mapText}
+use Rattle.paths.specs.Walks.{pathOf, pathAnswer, pathKept}
+use Rattle.paths.specs.declared.Written.the-variants as written
+use Rattle.checks.specs.Checks.{checkIn}
+use Rattle.answers.specs.Answers.{answerText, badText}
+use Rattle.floors.specs.Floors.{readOf, shownOf, putOf}
+use Rattle.floors.specs.declared.Put.the-variants as put
+use Rattle.router.specs.Route.{settingsFor, checkedText, routeText}
+use Rattle.packing.specs.Packing.{flagOf, pointOf, measurePacked, refusedAs}
+use Rattle.replies.specs.Replies.{valueReply, writtenReply}
+use Rattle.boundary.specs.Lent.{groundOk}
+use Rattle.boundary.specs.Texts.{printedOf}
+
+-- the point (x,y)
+abbrev pub at : ℕ → ℕ → Point
+at x y = record { x = pos x; y = pos y }
+
+-- lines that are read and written
+pub record Lines : Type 0 where
+  -- a plus for a minus: -7 is written `-7`
+  pub minus : coordText (negsuc 6) ≡ 45 ∷ 55 ∷ []
+  -- `+7` or `-0` taken, or a minus lost: -7 is read
+  pub signs : (coordOf (43 ∷ 55 ∷ []) ≡ Off) × (coordOf (45 ∷ 48 ∷ []) ≡ Off) × (coordOf (45 ∷ 55 ∷ []) ≡ At (negsuc 6) 2)
+  -- a wrong count of bytes: `0` is one byte, `64` two
+  pub count : (numberOf 1024 (48 ∷ 10 ∷ []) ≡ Whole 0 1) × (numberOf 1024 (54 ∷ 52 ∷ 10 ∷ []) ≡ Whole 64 2)
+  -- a leading zero taken: `width=03`
+  pub leadingZero : numberLine widthWord 1024 (119 ∷ 105 ∷ 100 ∷ 116 ∷ 104 ∷ 61 ∷ 48 ∷ 51 ∷ 10 ∷ []) ≡ Wrong
+  -- a line with no newline taken: `width=3` is eight bytes with it
+  pub newline : (numberLine widthWord 1024 (119 ∷ 105 ∷ 100 ∷ 116 ∷ 104 ∷ 61 ∷ 51 ∷ []) ≡ Wrong) × (numberLine widthWord 1024 (119 ∷ 105 ∷ 100 ∷ 116 ∷ 104 ∷ 61 ∷ 51 ∷ 10 ∷ []) ≡ Whole 3 8)
+  -- a coordinate out of range taken, or one in range refused
+  pub range : (coordOf (49 ∷ 48 ∷ 50 ∷ 51 ∷ []) ≡ At (pos 1023) 4) × (coordOf (49 ∷ 48 ∷ 50 ∷ 52 ∷ []) ≡ Off) × (coordOf (45 ∷ 49 ∷ 48 ∷ 50 ∷ 52 ∷ []) ≡ At (negsuc 1023) 5) × (coordOf (45 ∷ 49 ∷ 48 ∷ 50 ∷ 53 ∷ []) ≡ Off)
+  -- digits turned round or lost
+  pub digits : (digitsOf 65534 ≡ 54 ∷ 53 ∷ 53 ∷ 51 ∷ 52 ∷ []) × (digitsOf 0 ≡ 48 ∷ [])
+
+-- document 01's map, with the byte d for its diagonal flag, and any rows
+abbrev pub headOn : ℕ → List ℕ → List ℕ
+headOn d rest =
+    (119 ∷ 105 ∷ 100 ∷ 116 ∷ 104 ∷ 61 ∷ 51 ∷ 10 ∷ [])
+    ++ ((104 ∷ 101 ∷ 105 ∷ 103 ∷ 104 ∷ 116 ∷ 61 ∷ 49 ∷ 10 ∷ [])
+    ++ ((100 ∷ 105 ∷ 97 ∷ 103 ∷ 111 ∷ 110 ∷ 97 ∷ 108 ∷ 61 ∷ [])
+    ++ (d
+    ∷ (10 ∷ 115 ∷ 116 ∷ 97 ∷ 114 ∷ 116 ∷ 61 ∷ 48 ∷ 44 ∷ 48 ∷ 10 ∷ [])
+    ++ ((103 ∷ 111 ∷ 97 ∷ 108 ∷ 61 ∷ 50 ∷ 44 ∷ 48 ∷ 10 ∷ [])
+    ++ rest))))
+
+-- `row=.#.` and `row=.x.`
+abbrev pub wall : List ℕ
+wall = 114 ∷ 111 ∷ 119 ∷ 61 ∷ 46 ∷ 35 ∷ 46 ∷ 10 ∷ []
+
+abbrev pub badRow : List ℕ
+badRow = 114 ∷ 111 ∷ 119 ∷ 61 ∷ 46 ∷ 120 ∷ 46 ∷ 10 ∷ []
+
+-- what the lines before the rows say, with `diagonal=1`
+abbrev pub header : Header
+header = record { width = 3; height = 1; diagonal = true; start = at 0 0; goal = at 2 0 }
+
+-- map texts that are read and written
+pub record Maps : Type 0 where
+  -- another map than the text says
+  pub whole : mapOf (headOn 49 wall) ≡ reading.Map header
+  -- `diagonal=2` taken: its line is 3
+  pub diagonal : (flagLine diagonalWord (100 ∷ 105 ∷ 97 ∷ 103 ∷ 111 ∷ 110 ∷ 97 ∷ 108 ∷ 61 ∷ 50 ∷ 10 ∷ []) ≡ Wrong) × (mapOf (headOn 50 wall) ≡ reading.Bad 3)
+  -- a free cell read as blocked
+  pub free : cellsOf 1 3 wall ≡ 0 ∷ 1 ∷ 0 ∷ []
+  -- text after the last row taken: its line is 7
+  pub more : mapOf (headOn 49 (wall ++ (10 ∷ []))) ≡ reading.Bad 7
+  -- the wrong line of a bad row: the first row is line 6, the second line 7
+  pub line : (mapOf (headOn 49 badRow) ≡ reading.Bad 6) × (rowsOf 2 3 6 (wall ++ badRow) ≡ rows.Bad 7)
+  -- 8,192 bytes refused, or 8,193 taken: the line is 0 if too long
+  pub most : ((t : List ℕ) → length t ≡ 8192 → mapOf t ≡ withHead t (headOf t)) × ((t : List ℕ) → length t ≡ 8193 → mapOf t ≡ reading.Bad 0)
+  -- another letter, or another order of lines
+  pub glyph : mapText header (0 ∷ 1 ∷ 0 ∷ []) ≡ headOn 49 wall
+  -- the setting lost: `diagonal=0`
+  pub setting : readOf (headOn 48 wall) .diagonal ≡ false
+  -- a clean mark: the components of a map that was read are yet to be rebuilt
+  pub dirty : readOf (headOn 49 wall) .grid .dirty ≡ true
+  -- written where the longest text does not fit: 8,191 bytes are ROOM, 8,192 are not
+  pub room : ((g : Grid) → legalOf g ≡ true → putOf 8191 g true (at 0 0) (at 2 0) ≡ put.Refused refusal.Room)
+      × ((g : Grid) → legalOf g ≡ true → putOf 8192 g true (at 0 0) (at 2 0) ≡ put.Bytes (length (shownOf g true (at 0 0) (at 2 0))))
+
+-- from (2,0) to (0,1)
+abbrev pub slope : List ℤ
+slope = pos 2 ∷ pos 0 ∷ pos 0 ∷ pos 1 ∷ []
+
+-- the route check on `.#.`
+abbrev pub onWall : List ℤ → Verdict
+onWall l = checkIn 3 1 (0 ∷ 1 ∷ 0 ∷ []) l
+
+-- paths and route checks
+pub record Walks : Type 0 where
+  -- a step away from the waypoint: the walk is by sign
+  pub sign : pathOf slope ≡ pos 2 ∷ pos 0 ∷ pos 1 ∷ pos 1 ∷ pos 0 ∷ pos 1 ∷ []
+  -- room for one less: three points fit in room for three
+  pub room : (pathAnswer slope 6 ≡ written.Points 3) × (pathAnswer slope 5 ≡ written.Refused refusal.Room)
+  -- another place: the first pairs are written, the rest of the room is kept
+  pub place : pathKept (written.Points 1) (pos 2 ∷ pos 0 ∷ []) (pos 9 ∷ pos 8 ∷ pos 7 ∷ []) ≡ pos 2 ∷ pos 0 ∷ pos 7 ∷ []
+  -- another refusal: an empty list and an odd one are LIST, then a point out of range is POINT, also where there is no room
+  pub refused : (pathAnswer [] 0 ≡ written.Refused refusal.List) × (pathAnswer (pos 1 ∷ []) 6 ≡ written.Refused refusal.List)
+      × (pathAnswer (pos 0 ∷ pos 1024 ∷ []) 0 ≡ written.Refused (refusal.BadPoint (at 0 1024)))
+  -- a blocked waypoint clear, or the first one looked at: to (1,0) it is not clear, from (1,0) it is
+  pub clear : (onWall (pos 0 ∷ pos 0 ∷ pos 1 ∷ pos 0 ∷ []) ≡ verdict.No) × (onWall (pos 1 ∷ pos 0 ∷ pos 2 ∷ pos 0 ∷ []) ≡ verdict.Yes)
+  -- a waypoint outside clear
+  pub outside : onWall (pos 0 ∷ pos 0 ∷ pos 3 ∷ pos 0 ∷ []) ≡ verdict.No
+  -- another refusal of the check
+  pub unheard : (onWall [] ≡ verdict.Refused refusal.List) × (onWall (pos 0 ∷ []) ≡ verdict.Refused refusal.List)
+      × (onWall (pos 0 ∷ pos 1024 ∷ []) ≡ verdict.Refused (refusal.BadPoint (at 0 1024)))
+
+-- the waypoints of document 01's map with `row=...`
+abbrev pub three : List ℤ
+three = pos 0 ∷ pos 0 ∷ pos 1 ∷ pos 0 ∷ pos 2 ∷ pos 0 ∷ []
+
+-- what `route` prints
+pub record Prints : Type 0 where
+  -- 13 for 12: a bad line gives `result=12` and its number
+  pub badLine : badText 3 ≡ 114 ∷ 101 ∷ 115 ∷ 117 ∷ 108 ∷ 116 ∷ 61 ∷ 49 ∷ 50 ∷ 10 ∷ 108 ∷ 105 ∷ 110 ∷ 101 ∷ 61 ∷ 51 ∷ 10 ∷ []
+  -- result and pops mixed, or a route where there is none
+  pub refused : answerText 4 0 [] false ≡ 114 ∷ 101 ∷ 115 ∷ 117 ∷ 108 ∷ 116 ∷ 61 ∷ 52 ∷ 10 ∷ 112 ∷ 111 ∷ 112 ∷ 115 ∷ 61 ∷ 48 ∷ 10 ∷ 119 ∷ 97 ∷ 121 ∷ 112 ∷ 111 ∷ 105 ∷ 110 ∷ 116 ∷ 115 ∷ 61 ∷ 48 ∷ 10 ∷ 99 ∷ 108 ∷ 101 ∷ 97 ∷ 114 ∷ 61 ∷ 48 ∷ 10 ∷ []
+  -- clear turned round: document 01's seven lines, and the fourth where the check says no
+  pub clear : (checkedText verdict.Yes 3 three ≡ (114 ∷ 101 ∷ 115 ∷ 117 ∷ 108 ∷ 116 ∷ 61 ∷ 48 ∷ 10 ∷ 112 ∷ 111 ∷ 112 ∷ 115 ∷ 61 ∷ 51 ∷ 10 ∷ 119 ∷ 97 ∷ 121 ∷ 112 ∷ 111 ∷ 105 ∷ 110 ∷ 116 ∷ 115 ∷ 61 ∷ 51 ∷ 10 ∷ []) ++ ((99 ∷ 108 ∷ 101 ∷ 97 ∷ 114 ∷ 61 ∷ 49 ∷ 10 ∷ []) ++ (112 ∷ 111 ∷ 105 ∷ 110 ∷ 116 ∷ 61 ∷ 48 ∷ 44 ∷ 48 ∷ 10 ∷ 112 ∷ 111 ∷ 105 ∷ 110 ∷ 116 ∷ 61 ∷ 49 ∷ 44 ∷ 48 ∷ 10 ∷ 112 ∷ 111 ∷ 105 ∷ 110 ∷ 116 ∷ 61 ∷ 50 ∷ 44 ∷ 48 ∷ 10 ∷ [])))
+      × (checkedText verdict.No 3 three ≡ (114 ∷ 101 ∷ 115 ∷ 117 ∷ 108 ∷ 116 ∷ 61 ∷ 48 ∷ 10 ∷ 112 ∷ 111 ∷ 112 ∷ 115 ∷ 61 ∷ 51 ∷ 10 ∷ 119 ∷ 97 ∷ 121 ∷ 112 ∷ 111 ∷ 105 ∷ 110 ∷ 116 ∷ 115 ∷ 61 ∷ 51 ∷ 10 ∷ []) ++ ((99 ∷ 108 ∷ 101 ∷ 97 ∷ 114 ∷ 61 ∷ 48 ∷ 10 ∷ []) ++ (112 ∷ 111 ∷ 105 ∷ 110 ∷ 116 ∷ 61 ∷ 48 ∷ 44 ∷ 48 ∷ 10 ∷ 112 ∷ 111 ∷ 105 ∷ 110 ∷ 116 ∷ 61 ∷ 49 ∷ 44 ∷ 48 ∷ 10 ∷ 112 ∷ 111 ∷ 105 ∷ 110 ∷ 116 ∷ 61 ∷ 50 ∷ 44 ∷ 48 ∷ 10 ∷ [])))
+  -- the setting read into another field: other settings are a new grid's
+  pub setting : (settingsFor false .diagonal ≡ false) × (settingsFor false .improved ≡ true)
+
+-- the numbers for C and Rust
+pub record Numbers : Type 0 where
+  -- the wrong flag read: diagonals on, travel 0
+  pub flag : prunedIn (flagOf 1) (0 % 8) 251 ≡ 3
+  -- a point mixed: from (0,0) to (1,0) at factor 1
+  pub point : measurePacked (scaledOf (flagOf 1) one (pointOf (pos 0) (pos 0)) (pointOf (pos 1) (pos 0))) (pointOf (pos 0) (pos 0)) ≡ 70
+  -- the wrong point blamed: POINT is 14, with 256 more for the first and 512 more for the second
+  pub blamed : (measurePacked (scaledOf true one (at 1024 0) (at 0 0)) (at 1024 0) ≡ 4294967296 * 270) × (measurePacked (scaledOf true one (at 0 0) (at 1024 0)) (at 0 0) ≡ 4294967296 * 526)
+  -- a short table taken: two cells and one place
+  pub short : (groundOk 2 1 (0 ∷ []) (0 ∷ 1 ∷ []) (0 ∷ 0 ∷ []) ≡ false) × (groundOk 2 1 (0 ∷ 0 ∷ []) (0 ∷ 1 ∷ []) (0 ∷ 0 ∷ []) ≡ true)
+  -- room that is just enough refused: 82,100 bytes
+  pub room : ((t : List ℕ) → printedOf t 82100 ≡ length (routeText t)) × ((t : List ℕ) → printedOf t 82099 ≡ refusedAs refusal.Room)
+  -- another count of points
+  pub points : writtenReply (written.Points 3) ≡ valueReply 3
+
+pub record Texts : Type 0 where
+  pub lines : Lines
+  pub maps : Maps
+  pub walks : Walks
+  pub prints : Prints
+  pub numbers : Numbers

@@ -1,0 +1,3 @@
+-- The laws of the search's order.
+pub mod Order
+pub mod Ties

@@ -1,0 +1,45 @@
+-- `packing::refused` meets its contract: by the test of the first point. Assumes nothing.
+use mathlib.Core.Path.{sym, _∙_}
+use Prim.Native.Nat.{_+_, _*_}
+use Rattle.points.specs.Plane.{legal}
+use Rattle.packing.proofs.Choice.{yes, neither}
+use borrow.Author.Needs.{needs}
+use Rattle.packing.proofs.refused.Statement.{statement}
+use Rattle.packing.proofs.refused.Tie as tie
+
+cast-number : tie.Need-cast-number
+cast-number c = search needs
+
+legal-requires : tie.Need-legal-requires
+legal-requires c κs = search needs
+
+add-result : tie.Need-add-result
+add-result c = search needs
+
+mul-result : tie.Need-mul-result
+mul-result c = search needs
+
+returns : tie.Need-returns
+returns c = let a = c .before .before .before .args in yes (legal (a .a)) (4294967296 * (a .t .number + 512)) (4294967296 * (a .t .number + 256)) (sym (c .before .legal .ensures) ∙ c .if1 .taken)
+
+add-result-2 : tie.Need-add-result-2
+add-result-2 c = search needs
+
+mul-result-2 : tie.Need-mul-result-2
+mul-result-2 c = search needs
+
+returns-2 : tie.Need-returns-2
+returns-2 c = let a = c .before .before .before .args in neither (legal (a .a)) (4294967296 * (a .t .number + 512)) (4294967296 * (a .t .number + 256)) (sym (c .before .legal .ensures) ∙ c .if1 .left)
+
+pub refused-spec : {M : Type 1} → statement M
+refused-spec =
+    tie.close
+    (tie.spec
+    cast-number
+    legal-requires
+    add-result
+    mul-result
+    returns
+    add-result-2
+    mul-result-2
+    returns-2)

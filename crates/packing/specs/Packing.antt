@@ -1,0 +1,52 @@
+-- How an answer crosses the boundary as one number: below 2^32 the value; else 2^32 times the refusal's number, with 256 more where it
+-- concerns the first point and 512 more where it concerns the second. Assumes nothing: these are definitions.
+use mathlib.Core.Bool.{Bool, true, false, cond, not}
+use Prim.Native.Nat.{ℕ, _+_, _*_}
+use lib.Dec.{eqb}
+use lib.Ieee.{Float}
+use lib.IntN.{ℤ}
+use Rattle.points.specs.Plane.{legal}
+use Rattle.points.specs.Refusals.{toldOf}
+use Rattle.points.specs.declared.Point.{Point}
+use Rattle.points.specs.declared.Refusal.{Refusal}
+use Rattle.points.specs.declared.Told.{Told}
+use Rattle.points.specs.declared.Heading.{Heading}
+use Rattle.points.specs.declared.Heading.the-variants.{Toward}
+use Rattle.points.specs.declared.Heading.the-variants as heading
+use Rattle.costs.specs.declared.Settings.{Settings}
+use Rattle.costs.specs.declared.Measure.{Measure}
+use Rattle.costs.specs.declared.Measure.the-variants.{Cost}
+use Rattle.costs.specs.declared.Measure.the-variants as measure
+
+-- a flag is 0 or not
+abbrev pub flagOf : ℕ → Bool
+flagOf b = not (eqb b 0)
+
+abbrev pub pointOf : ℤ → ℤ → Point
+pointOf x y = record { x = x; y = y }
+
+-- a refusal of a call on two points, of which a is the first
+abbrev pub refusedWith : Told → Point → ℕ
+refusedWith t a = cond (legal a) (4294967296 * (t .number + 512)) (4294967296 * (t .number + 256))
+
+abbrev pub headingPacked : Heading → Point → ℕ
+headingPacked (Toward d) a = d .number
+headingPacked (heading.Refused r) a = refusedWith (toldOf r) a
+
+abbrev pub measurePacked : Measure → Point → ℕ
+measurePacked (Cost c) a = c
+measurePacked (measure.Refused r) a = refusedWith (toldOf r) a
+
+-- a refusal as an answer
+abbrev pub refusedAs : Refusal → ℕ
+refusedAs r = 4294967296 * toldOf r .number
+
+-- yes and no as an answer
+abbrev pub markOf : Bool → ℕ
+markOf true = 1
+markOf false = 0
+
+-- the factor, the two flags and the three limits
+abbrev pub settingsOf : Float → Bool → Bool → ℕ → ℕ → ℕ → Settings
+settingsOf factor diagonal improved depth pops fringe =
+    record { factor = factor; diagonal = diagonal; improved = improved; depth = depth; pops = pops; fringe = fringe }

@@ -1,0 +1,6 @@
+pub mod Sums
+pub mod Replies
+pub mod Costs
+pub mod Order
+pub mod Calls
+pub mod Results

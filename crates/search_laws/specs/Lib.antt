@@ -1,0 +1,5 @@
+pub mod Replies
+pub mod Costs
+pub mod Order
+pub mod Calls
+pub mod Results

@@ -1,0 +1,3 @@
+-- The laws of the sifts.
+pub mod Lists
+pub mod Turns

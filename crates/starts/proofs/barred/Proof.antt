@@ -1,0 +1,13 @@
+-- `starts::barred` meets its contract. Assumes nothing.
+use borrow.Author.Tests.{eq-eqb, ne-eqb}
+use Rattle.starts.proofs.barred.Statement.{statement}
+use Rattle.starts.proofs.barred.Tie as tie
+
+returns : tie.Need-returns
+returns c = simp (eq-eqb _ _ (c .if1 .taken))
+
+returns-2 : tie.Need-returns-2
+returns-2 c = simp (ne-eqb _ _ (c .if1 .left))
+
+pub barred-spec : {M : Type 1} → statement M
+barred-spec = tie.close (tie.spec returns returns-2)
