@@ -17,7 +17,8 @@ use Rattle.components.proofs.Loops.{and-true}
 use Rattle.states.proofs.State.{state-of}
 use Rattle.cells.specs.Cells.{mostSide, sizedOf, placeOf, cellOf, Within}
 use Rattle.cells.proofs.Cell.{area, places}
-use Rattle.tables.specs.Tables.{Room, newOf, editOf, rebuiltLinks}
+use Rattle.rebuilds.specs.Rebuilds.{rebuiltLinks}
+use Rattle.tables.specs.Tables.{Room, newOf, editOf}
 use Rattle.cells.specs.Cells.{Sides}
 use Rattle.cells.proofs.Cell.{sides-of}
 use Rattle.questions.specs.Questions.{reachableOf, neighboursReachableOf, neighboursUnreachableOf}

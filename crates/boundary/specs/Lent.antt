@@ -12,7 +12,8 @@ use Rattle.masks.specs.Masks.{prunedIn}
 use Rattle.components.specs.Components.{Links, rootOf}
 use Rattle.states.specs.States.{stateOk}
 use Rattle.cells.specs.Cells.{sizedOf, placeOf, cellOf}
-use Rattle.tables.specs.Tables.{Tables, newOf, editOf, rebuiltLinks}
+use Rattle.rebuilds.specs.Rebuilds.{rebuiltLinks}
+use Rattle.tables.specs.Tables.{Tables, newOf, editOf}
 use Rattle.packing.specs.Packing.{refusedAs, markOf}
 use Rattle.questions.specs.Questions.{reachableOf, neighboursReachableOf, neighboursUnreachableOf}
 

@@ -240,7 +240,7 @@ pub extern "C" fn barnsling_rebuild(
     if !grounded(blocked, parent, rank, w, h) {
         return refused_as(Refusal::State);
     }
-    tables::rebuild(w, h, flag(diagonal), blocked, parent, rank);
+    rebuilds::rebuild(w, h, flag(diagonal), blocked, parent, rank);
     0
 }
 

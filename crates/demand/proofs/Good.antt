@@ -11,11 +11,12 @@ use Rattle.masks.specs.Masks.{forcedOf}
 use Rattle.fills.specs.Fills.{MasksRight, fillTo, maskAt, newBlocked, newParent}
 use Rattle.cells.proofs.Cell.{cell-lt}
 use Rattle.fills.proofs.Fills.{length-fillTo, get-fillTo, fill-right}
-use Rattle.tables.specs.Tables.{Tables, Room, linksOf, singles, newOf, editOf, rebuildOf, updateOf}
+use Rattle.rebuilds.specs.Rebuilds.{singles}
+use Rattle.tables.specs.Tables.{Tables, Room, linksOf, newOf, editOf, rebuildOf, updateOf}
 use Rattle.refresh.specs.Refresh.{blocks}
 use Rattle.joins.specs.Joins.{around, joinedTo}
 use Rattle.joins.proofs.Joins.{Held, held-joined}
-use Rattle.tables.proofs.Changes.{held-columns, held-singles}
+use Rattle.rebuilds.proofs.Rebuilds.{held-columns, held-singles}
 use Rattle.demand.proofs.Runs.{Call, edit, rebuild, update, afterCalls}
 use Rattle.demand.proofs.Masks.{Follows, forced-kept, right-small, length-masks, length-forced, fill-follows, edit-right}
 

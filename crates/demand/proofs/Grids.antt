@@ -14,8 +14,9 @@ use Rattle.components.proofs.Loops.{and-true}
 use Rattle.cells.specs.Cells.{sizedOf, placeOf, cellOf}
 use Rattle.fills.specs.Fills.{MasksRight}
 use Rattle.cells.proofs.Cell.{cell-lt, of-inside, places}
-use Rattle.tables.specs.Tables.{Tables, editOf, rebuildOf, updateOf, mostRank}
-use Rattle.tables.proofs.Changes.{fits}
+use Rattle.rebuilds.specs.Rebuilds.{mostRank}
+use Rattle.tables.specs.Tables.{Tables, editOf, rebuildOf, updateOf}
+use Rattle.rebuilds.proofs.Rebuilds.{fits}
 use Rattle.questions.specs.Questions.{reachableOf, rootedOf}
 use Rattle.grid.specs.declared.Grid.{Grid}
 use Rattle.grid.specs.declared.Outcome.{Outcome}

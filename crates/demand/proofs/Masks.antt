@@ -18,7 +18,7 @@ use Rattle.fills.specs.Fills.{freeBit, MasksRight, maskOf, fillTo}
 use Rattle.cells.proofs.Cell.{cell-lt, row-lt}
 use Rattle.refresh.proofs.Updates.{length-touchedTo, length-fixedTo, fixed-skip}
 use Rattle.fills.proofs.Fills.{get-fillTo, free-small, mask-small}
-use Rattle.tables.proofs.Right.{masks-kept, get-pick, touched-hit, touched-miss, small-to, forced-odd}
+use Rattle.mask_laws.proofs.Right.{masks-kept, get-pick, touched-hit, touched-miss, small-to, forced-odd}
 
 -- each forced mask is that of the cell's neighbour mask
 unfoldable pub Follows : ℕ → List ℕ → List ℕ → Type 0

@@ -15,9 +15,9 @@ use Rattle.components.proofs.Roots
 use Rattle.components.proofs.Weight
 use Rattle.cells.specs.Cells.{cellTo}
 use Rattle.joins.specs.Joins.{ahead, joinCell, joinedTo}
-use Rattle.tables.specs.Tables.{cellJoined, columnTo, columnsTo}
+use Rattle.rebuilds.specs.Rebuilds.{cellJoined, columnTo, columnsTo}
 use Rattle.joins.proofs.Joins.{join-cases, join-free, Held}
-use Rattle.tables.proofs.Changes.{cell-free}
+use Rattle.rebuilds.proofs.Rebuilds.{cell-free}
 use Rattle.demand.proofs.Ways.{In}
 
 abbrev pub joinTo : Links → ℕ → ℕ → Links

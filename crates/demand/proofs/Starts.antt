@@ -10,8 +10,9 @@ use lib.Seq.{length-sets}
 use Rattle.points.specs.declared.Refusal.the-variants.{Size}
 use Rattle.cells.specs.Cells.{mostSide, sizedOf, Sides}
 use Rattle.cells.proofs.Cell.{area, sides-of}
-use Rattle.tables.specs.Tables.{Tables, newOf, mostRank}
-use Rattle.tables.proofs.Changes.{fits}
+use Rattle.rebuilds.specs.Rebuilds.{mostRank}
+use Rattle.tables.specs.Tables.{Tables, newOf}
+use Rattle.rebuilds.proofs.Rebuilds.{fits}
 use Rattle.grid.specs.declared.Grid.{Grid}
 use Rattle.grid.specs.declared.Outcome.the-variants.{Done, Refused}
 use Rattle.grid.specs.declared.Change.{Change}

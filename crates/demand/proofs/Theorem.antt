@@ -16,10 +16,11 @@ use Rattle.cells.specs.Cells.{cellTo}
 use Rattle.fills.specs.Fills.{MasksRight}
 use Rattle.cells.proofs.Cell.{cell-lt, same-cell}
 use Rattle.fills.proofs.Fills.{get-fillTo}
-use Rattle.tables.specs.Tables.{Tables, linksOf, singles, columnsTo, editOf, rebuildOf}
+use Rattle.rebuilds.specs.Rebuilds.{singles, columnsTo}
+use Rattle.tables.specs.Tables.{Tables, linksOf, editOf, rebuildOf}
 use Rattle.joins.specs.Joins.{around, ahead, joinedTo}
 use Rattle.joins.proofs.Joins.{Held}
-use Rattle.tables.proofs.Changes.{held-singles, fits}
+use Rattle.rebuilds.proofs.Rebuilds.{held-singles, fits}
 use Rattle.demand.specs.Walks.{Free, Step, Move, Walk, stay}
 use Rattle.demand.specs.Demand3.{ForcedRight}
 use Rattle.demand.proofs.Runs.{Edit, edited, afterEdits, noneBlocks, Clauses}

@@ -18,7 +18,7 @@ use Rattle.masks.specs.Masks.{forcedOf}
 use Rattle.components.specs.Components.{rootOf}
 use Rattle.cells.specs.Cells.{mostSide}
 use Rattle.fills.specs.Fills.{MasksRight, maskOf}
-use Rattle.tables.specs.Tables.{mostRank}
+use Rattle.rebuilds.specs.Rebuilds.{mostRank}
 use Rattle.grid.specs.declared.Grid.{Grid}
 use Rattle.grid.specs.declared.Verdict.the-variants.{No}
 use Rattle.grid.specs.Grids.{legalOf, newOutcome, setOutcome, rebuildOutcome, updateOutcome}

@@ -30,6 +30,7 @@ use Rattle.grid.specs.Grids.{legalOf, newGrid, rebuildGrid}
 use Rattle.joins.specs.Joins as joins
 use Rattle.refresh.specs.Refresh as refresh
 use Rattle.fills.specs.Fills as fills
+use Rattle.rebuilds.specs.Rebuilds as rebuilds
 use Rattle.tables.specs.Tables as tables
 use Rattle.waypoints.specs.Waypoints.{singleOf, severalOf}
 use lib.Ieee.{mul, le, ofInt, toUnsigned}
@@ -37,7 +38,7 @@ use Rattle.examples.specs.Searches.{Searches, Steps}
 
 -- what a search computes with
 computing : Bool
-unfolding offX offY hasBit prunedOf cellOk rootOf climb cells.sizedOf cells.cellOf reachableOf rootedOf nearAlong nearOf neighboursUnreachableOf distOf inBounds scaleOf pointAt badOf leastTo amongTo goalAt leftOf guessOf up down push top rest keyOf costOf added lowered noteOf areaOf placePoint guessAt offerOf each visitOf turnOf run none begin searchOf stops.byteAt stops.within stops.freeAt stops.stopsAt looks.reachOf looks.run looks.seesOn looks.seesEither looks.turnsAt jumps.haltsAt jumps.jumpOf againAt giveOf followWith expandWith deeperAt leapOf freeCell neighbourOf towardOf spreadOf yieldOf goalOf searchFor routeOf pairs wroteOf leftIn readyOf barredOf finder.answerOf finder.outAfter finder.startedOf finder.singleOf finder.severalOf legalOf newGrid rebuildGrid tables.newOf tables.rebuildOf tables.editOf tables.columnsTo tables.columnTo tables.cellJoined joins.joinedTo joins.joinCell joins.around joins.ahead united linked halve halves cells.cellAt refresh.withBit refresh.touched refresh.fixed refresh.fixedAll refresh.masksAfter fills.freeBit fills.maskOf forcedOf singleOf severalOf mul le ofInt toUnsigned
+unfolding offX offY hasBit prunedOf cellOk rootOf climb cells.sizedOf cells.cellOf reachableOf rootedOf nearAlong nearOf neighboursUnreachableOf distOf inBounds scaleOf pointAt badOf leastTo amongTo goalAt leftOf guessOf up down push top rest keyOf costOf added lowered noteOf areaOf placePoint guessAt offerOf each visitOf turnOf run none begin searchOf stops.byteAt stops.within stops.freeAt stops.stopsAt looks.reachOf looks.run looks.seesOn looks.seesEither looks.turnsAt jumps.haltsAt jumps.jumpOf againAt giveOf followWith expandWith deeperAt leapOf freeCell neighbourOf towardOf spreadOf yieldOf goalOf searchFor routeOf pairs wroteOf leftIn readyOf barredOf finder.answerOf finder.outAfter finder.startedOf finder.singleOf finder.severalOf legalOf newGrid rebuildGrid tables.newOf tables.rebuildOf tables.editOf rebuilds.columnsTo rebuilds.columnTo rebuilds.cellJoined joins.joinedTo joins.joinCell joins.around joins.ahead united linked halve halves cells.cellAt refresh.withBit refresh.touched refresh.fixed refresh.fixedAll refresh.masksAfter fills.freeBit fills.maskOf forcedOf singleOf severalOf mul le ofInt toUnsigned
 computing = true
 
 pub searches : Searches

@@ -12,7 +12,8 @@ use Rattle.cells.specs.Cells.{sizedOf, cellOf, cellAt}
 use Rattle.fills.specs.Fills.{freeBit, maskOf}
 use Rattle.refresh.specs.Refresh.{withBit, touched, fixed, fixedAll, masksAfter}
 use Rattle.joins.specs.Joins.{around, ahead, joinCell, joinedTo}
-use Rattle.tables.specs.Tables.{cellJoined, columnTo, columnsTo, newOf, editOf, rebuildOf, updateOf}
+use Rattle.rebuilds.specs.Rebuilds.{cellJoined, columnTo, columnsTo}
+use Rattle.tables.specs.Tables.{newOf, editOf, rebuildOf, updateOf}
 use Rattle.questions.specs.Questions.{rootedOf, reachableOf, nearAlong, nearOf, neighboursReachableOf, neighboursUnreachableOf}
 use Rattle.grid.specs.Grids.{legalOf, statedOf, locatedOf, askedOf, newGrid, newOutcome, rebuildGrid, rebuildOutcome}
 use Rattle.grid.specs.Questions.{componentAt, neighbourMaskAt, forcedMaskAt, prunedMaskAt, reachableFrom, unreachableFrom}

@@ -205,7 +205,7 @@ fn rebuilt(g: Grid, diagonal: bool) -> Grid
     let blocked = g.blocked;
     let mut parent = g.parent;
     let mut rank = g.rank;
-    tables::rebuild(w, h, diagonal, &blocked, &mut parent, &mut rank);
+    rebuilds::rebuild(w, h, diagonal, &blocked, &mut parent, &mut rank);
     let mut next = g;
     next.parent = parent;
     next.rank = rank;

@@ -8,7 +8,8 @@ use lib.Dec.{eqb}
 use Rattle.components.specs.Components.{Links}
 use Rattle.fills.specs.Fills.{newBlocked, newMasks, newForced, newParent}
 use Rattle.refresh.specs.Refresh.{blocks, masksAfter, forcedAfter}
-use Rattle.joins.specs.Joins.{around, ahead, joinedTo}
+use Rattle.joins.specs.Joins.{around, joinedTo}
+use Rattle.rebuilds.specs.Rebuilds.{rebuiltLinks}
 
 -- the tables of a grid: which cells are blocked (0 is free), the neighbour masks, the forced masks, the union-find's parents and ranks, and the mark
 pub record Tables : Type 0 where
@@ -33,28 +34,6 @@ editOf w h diagonal t x y b = record {
   rank = cond (blocks w (t .blocked) x y b) (linksOf t) (joinedTo w h (t .blocked) x y (around diagonal) (linksOf t)) .rank;
   dirty = blocks w (t .blocked) x y b || t .dirty;
 }
-
--- a rebuild at one cell, free or not
-unfoldable pub cellJoined : ℕ → ℕ → Bool → List ℕ → ℕ → ℕ → Links → Links
-cellJoined w h diagonal blocked x y u = cond (eqb (getD blocked (y * w + x) 0) 0) (joinedTo w h blocked x y (ahead diagonal) u) u
-
--- at the first m cells of the column x
-unfoldable pub columnTo : ℕ → ℕ → Bool → List ℕ → ℕ → ℕ → Links → Links
-columnTo w h diagonal blocked x zero u = u
-columnTo w h diagonal blocked x (suc m) u = cellJoined w h diagonal blocked x m (columnTo w h diagonal blocked x m u)
-
--- at the first m columns
-unfoldable pub columnsTo : ℕ → ℕ → Bool → List ℕ → ℕ → Links → Links
-columnsTo w h diagonal blocked zero u = u
-columnsTo w h diagonal blocked (suc m) u = columnTo w h diagonal blocked m h (columnsTo w h diagonal blocked m u)
-
--- singletons: each cell its own component
-abbrev pub singles : ℕ → ℕ → List ℕ → List ℕ → Links
-singles w h p k = record { parent = newParent w h p; rank = newBlocked w h k }
-
--- the components of a rebuild
-abbrev pub rebuiltLinks : ℕ → ℕ → Bool → List ℕ → List ℕ → List ℕ → Links
-rebuiltLinks w h diagonal blocked p k = columnsTo w h diagonal blocked w (singles w h p k)
 
 -- a rebuild: from singletons, column by column; the mark is cleared
 unfoldable pub rebuildOf : ℕ → ℕ → Bool → Tables → Tables
@@ -81,10 +60,6 @@ newOf w h t = record {
   rank = newBlocked w h (t .rank);
   dirty = false;
 }
-
--- a grid of the longest sides has 2 to this many cells, so no rank of a grid that the calls made is above it
-abbrev pub mostRank : ℕ
-mostRank = 12
 
 -- every table has a place for each cell
 pub record Room (w h : ℕ) (t : Tables) : Type 0 where

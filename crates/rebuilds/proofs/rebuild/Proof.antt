@@ -1,15 +1,15 @@
--- `tables::rebuild` meets its contract. Assumes nothing.
+-- `rebuilds::rebuild` meets its contract. Assumes nothing.
 use Rattle.joins.proofs.Joins
-use Rattle.tables.proofs.Changes
-use Rattle.tables.specs.Tables.{columnsTo, singles, mostRank}
+use Rattle.rebuilds.proofs.Rebuilds
+use Rattle.rebuilds.specs.Rebuilds.{columnsTo, singles, mostRank}
 use Rattle.components.proofs.Loops.{ended}
 use Rattle.cells.proofs.Cell.{area}
 use Rattle.components.specs.Components.{Links}
 use native.Mathlib.Omega.{arith}
 use Prim.Native.Nat.{ℕ, _-_, _*_, _≤_}
 use mathlib.Core.Path.{_≡_, refl, ap, _∙_}
-use Rattle.tables.proofs.rebuild.Statement.{statement}
-use Rattle.tables.proofs.rebuild.Tie as tie
+use Rattle.rebuilds.proofs.rebuild.Statement.{statement}
+use Rattle.rebuilds.proofs.rebuild.Tie as tie
 
 abbrev Inv-loop : tie.InvT-loop
 Inv-loop w h diagonal blocked parent₀ rank₀ n x₀ parent rank x = (x ≤ w)
@@ -31,8 +31,8 @@ fill-zero-requires c κs = c .before .before .before .before .before .before .be
 loop-holds : tie.Need-loop-holds Inv-loop μ-loop
 loop-holds c =
     let s = c .before .before .before .before .before .before .before .before .before .before .before in
-    let K = Changes.held-singles mostRank (s .args .w) (s .args .h) (s .args .parent .now) (s .args .rank .now) (s .pre .2) (s .pre .3) (Changes.fits (s .pre .0)) in
-    (omega arith, record { light = Changes.light-as _ _ _ _ (c .before .before .before .before .before .before .fill-ident .ensures) (c .before .before .fill-zero .ensures) (K .light); long-p = refl; long-k = refl }, Changes.columns-none _ _ _ _ _)
+    let K = Rebuilds.held-singles mostRank (s .args .w) (s .args .h) (s .args .parent .now) (s .args .rank .now) (s .pre .2) (s .pre .3) (Rebuilds.fits (s .pre .0)) in
+    (omega arith, record { light = Rebuilds.light-as _ _ _ _ (c .before .before .before .before .before .before .fill-ident .ensures) (c .before .before .fill-zero .ensures) (K .light); long-p = refl; long-k = refl }, Rebuilds.columns-none _ _ _ _ _)
 
 rebuild-column-requires : tie.Need-rebuild-column-requires Inv-loop μ-loop
 rebuild-column-requires c κs =
@@ -51,7 +51,7 @@ loop-again c =
     let s = c .before .before .before .before .before .before .before .before .before .before .before .before .before .before .before .before .before .before .before .before in
     let v = c .before .before .before .before .before .before .before .before .loop in
     let g = c .before .before .before .before .rebuild-column in
-    (omega arith, rw (g .ensures) (Changes.held-column (omega arith) _ _ _ _ _ _ (c .before .before .before .before .before .before .before .loop-test .taken) _ (omega arith) _ (v .inv .1)), Changes.columns-turn _ _ _ _ (v .x) _ _ _ (v .inv .2) (g .ensures))
+    (omega arith, rw (g .ensures) (Rebuilds.held-column (omega arith) _ _ _ _ _ _ (c .before .before .before .before .before .before .before .loop-test .taken) _ (omega arith) _ (v .inv .1)), Rebuilds.columns-turn _ _ _ _ (v .x) _ _ _ (v .inv .2) (g .ensures))
 
 same-length : tie.Need-same-length Inv-loop μ-loop
 same-length c = c .before .loop .inv .1 .long-p ∙ c .before .before .before .before .before .before .before .before .fill-ident .kept .0

@@ -1,11 +1,11 @@
--- `tables::rebuild_cell` meets its contract. Assumes nothing.
-use Rattle.tables.proofs.Changes
+-- `rebuilds::rebuild_cell` meets its contract. Assumes nothing.
+use Rattle.rebuilds.proofs.Rebuilds
 use Rattle.cells.proofs.Cell.{inside, area}
 use native.Mathlib.Omega.{arith}
 use mathlib.Core.Path.{_∙_}
 use borrow.Author.Needs.{needs}
-use Rattle.tables.proofs.rebuild_cell.Statement.{statement}
-use Rattle.tables.proofs.rebuild_cell.Tie as tie
+use Rattle.rebuilds.proofs.rebuild_cell.Statement.{statement}
+use Rattle.rebuilds.proofs.rebuild_cell.Tie as tie
 
 mul-i : tie.Need-mul-i
 mul-i c = let s = c .before .before .before in omega (arith, area (s .args .w) (s .args .h) (s .pre .0 .wide) (s .pre .0 .high), inside (s .pre .0))
@@ -26,10 +26,10 @@ same-length-2 : tie.Need-same-length-2
 same-length-2 c = search needs
 
 returns : tie.Need-returns
-returns c = c .before .before .before .before .join-ahead .ensures ∙ Changes.cell-free _ _ _ _ _ _ _ (c .before .before .before .before .before .before .before .if1 .taken)
+returns c = c .before .before .before .before .join-ahead .ensures ∙ Rebuilds.cell-free _ _ _ _ _ _ _ (c .before .before .before .before .before .before .before .if1 .taken)
 
 returns-2 : tie.Need-returns-2
-returns-2 c = Changes.cell-blocked _ _ _ _ _ _ _ (c .if1 .left)
+returns-2 c = Rebuilds.cell-blocked _ _ _ _ _ _ _ (c .if1 .left)
 
 pub rebuild-cell-spec : {M : Type 1} → statement M
 rebuild-cell-spec =

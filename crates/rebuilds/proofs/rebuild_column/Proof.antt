@@ -1,15 +1,15 @@
--- `tables::rebuild_column` meets its contract. Assumes nothing.
+-- `rebuilds::rebuild_column` meets its contract. Assumes nothing.
 use Rattle.joins.proofs.Joins
-use Rattle.tables.proofs.Changes
-use Rattle.tables.specs.Tables.{columnTo, mostRank}
+use Rattle.rebuilds.proofs.Rebuilds
+use Rattle.rebuilds.specs.Rebuilds.{columnTo, mostRank}
 use Rattle.components.proofs.Loops.{ended}
 use Rattle.components.proofs.Roots
 use Rattle.components.specs.Components.{Links}
 use native.Mathlib.Omega.{arith}
 use Prim.Native.Nat.{ℕ, _-_, _*_, _≤_}
 use mathlib.Core.Path.{_≡_, refl}
-use Rattle.tables.proofs.rebuild_column.Statement.{statement}
-use Rattle.tables.proofs.rebuild_column.Tie as tie
+use Rattle.rebuilds.proofs.rebuild_column.Statement.{statement}
+use Rattle.rebuilds.proofs.rebuild_column.Tie as tie
 
 abbrev Inv-loop : tie.InvT-loop
 Inv-loop w h diagonal blocked parent₀ rank₀ x y₀ parent rank y = (y ≤ h)
@@ -20,7 +20,7 @@ abbrev μ-loop : tie.MeasureT-loop
 μ-loop w h diagonal blocked parent₀ rank₀ x y₀ parent rank y = h - y
 
 loop-holds : tie.Need-loop-holds Inv-loop μ-loop
-loop-holds c = let s = c .before .before .before in (omega arith, record { light = s .pre .3; long-p = refl; long-k = refl }, Changes.column-none _ _ _ _ _ _)
+loop-holds c = let s = c .before .before .before in (omega arith, record { light = s .pre .3; long-p = refl; long-k = refl }, Rebuilds.column-none _ _ _ _ _ _)
 
 rebuild-cell-requires : tie.Need-rebuild-cell-requires Inv-loop μ-loop
 rebuild-cell-requires c κs =
@@ -39,7 +39,7 @@ loop-again c =
     let s = c .before .before .before .before .before .before .before .before .before .before .before .before in
     let v = c .before .before .before .before .before .before .before .before .loop in
     let g = c .before .before .before .before .rebuild-cell in
-    (omega arith, rw (g .ensures) (Changes.held-cell (omega arith) _ _ _ _ _ _ _ (s .pre .1) (c .before .before .before .before .before .before .before .loop-test .taken) _ (v .inv .1)), Changes.column-turn _ _ _ _ _ (v .y) _ _ _ (v .inv .2) (g .ensures))
+    (omega arith, rw (g .ensures) (Rebuilds.held-cell (omega arith) _ _ _ _ _ _ _ (s .pre .1) (c .before .before .before .before .before .before .before .loop-test .taken) _ (v .inv .1)), Rebuilds.column-turn _ _ _ _ _ (v .y) _ _ _ (v .inv .2) (g .ensures))
 
 same-length : tie.Need-same-length Inv-loop μ-loop
 same-length c = c .before .loop .inv .1 .long-p
