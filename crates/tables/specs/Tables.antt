@@ -2,9 +2,8 @@
 -- w and h, the sides, are parameters. A cell (x, y) has the number y * w + x. Assumes nothing.
 use mathlib.Core.Bool.{Bool, false, not, cond, _||_}
 use mathlib.Core.List.{List}
-use Prim.Native.Nat.{ℕ, zero, suc, _+_, _*_, _≤_}
-use lib.ListN.{length, getD, set}
-use lib.Dec.{eqb}
+use Prim.Native.Nat.{ℕ, _+_, _*_, _≤_}
+use lib.ListN.{length, set}
 use Rattle.components.specs.Components.{Links}
 use Rattle.fills.specs.Fills.{newBlocked, newMasks, newForced, newParent}
 use Rattle.refresh.specs.Refresh.{blocks, masksAfter, forcedAfter}
