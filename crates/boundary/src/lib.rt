@@ -260,7 +260,7 @@ pub extern "C" fn barnsling_update(
     if !grounded(blocked, parent, rank, w, h) {
         return refused_as(Refusal::State);
     }
-    tables::update(w, h, flag(diagonal), flag(dirty), blocked, parent, rank);
+    rebuilds::update(w, h, flag(diagonal), flag(dirty), blocked, parent, rank);
     0
 }
 

@@ -8,14 +8,16 @@ use lib.Dec.{eqb}
 use lib.IntN.{ℤ}
 use lib.ListN.{length, getD, drop, drop-of-length-le}
 use Rattle.points.specs.declared.Point.{Point}
-use Rattle.points.specs.declared.Refusal.the-variants.{List as ListBroken, BadPoint}
+use Rattle.points.specs.declared.Refusal.the-variants.{List as ListBroken, BadPoint, State}
 use Rattle.cells.specs.Cells.{cellOf}
+use Rattle.grid.specs.Grids.{legalOf}
+use Rattle.grid.specs.declared.Grid.{Grid}
 use Rattle.grid.specs.declared.Verdict.the-variants.{Yes, No, Refused}
 use Rattle.pairs.specs.Pairs.{pointAt, firstBad}
 use Rattle.pairs.specs.declared.Bad.{Bad}
 use Rattle.pairs.specs.declared.Bad.the-variants.{At, Nowhere}
 use Rattle.pairs.proofs.Laws.{two-more}
-use Rattle.checks.specs.Checks.{freeAt, allFree, clearOf, judged, checkIn}
+use Rattle.checks.specs.Checks.{freeAt, allFree, clearOf, judged, checkIn, checkOf}
 
 -- ---- the route check, one point at a time
 module _ (w h : ℕ) (blocked : List ℕ) where
@@ -64,3 +66,13 @@ module _ (w h : ℕ) (blocked : List ℕ) (l : List ℤ) where
 
       pub check-clear : (t : Bool) → firstBad l ≡ Nowhere → t ≡ clearOf w h blocked l → cond t Yes No ≡ checkIn w h blocked l
       check-clear t e f = sym (whole ∙ ap (λ (b : Bad). judged b (clearOf w h blocked l)) e ∙ ap (λ (b : Bool). cond b Yes No) (sym f))
+
+-- ---- the check on a grid: STATE first
+module _ (g : Grid) (l : List ℤ) where
+  pub check-state : legalOf g ≡ false → Refused State ≡ checkOf g l
+  unfolding checkOf
+  check-state e = rw e
+
+  pub check-held : legalOf g ≡ true → checkIn (g .width) (g .height) (g .blocked) l ≡ checkOf g l
+  unfolding checkOf
+  check-held e = rw e

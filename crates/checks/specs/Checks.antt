@@ -7,8 +7,10 @@ use lib.Dec.{ltb, eqb}
 use lib.IntN.{ℤ}
 use lib.ListN.{length, getD, drop}
 use Rattle.points.specs.declared.Point.{Point}
-use Rattle.points.specs.declared.Refusal.the-variants.{List as ListBroken, BadPoint}
+use Rattle.points.specs.declared.Refusal.the-variants.{List as ListBroken, BadPoint, State}
 use Rattle.cells.specs.Cells.{cellOf}
+use Rattle.grid.specs.Grids.{legalOf}
+use Rattle.grid.specs.declared.Grid.{Grid}
 use Rattle.grid.specs.declared.Verdict.{Verdict}
 use Rattle.grid.specs.declared.Verdict.the-variants.{Yes, No, Refused}
 use Rattle.pairs.specs.Pairs.{point, firstBad}
@@ -40,3 +42,7 @@ checkIn w h blocked l =
     cond (eqb (length l) 0) (Refused ListBroken)
     (cond (eqb (length l % 2) 1) (Refused ListBroken)
     (judged (firstBad l) (clearOf w h blocked l)))
+
+-- STATE, LIST, POINT
+unfoldable pub checkOf : Grid → List ℤ → Verdict
+checkOf g l = cond (legalOf g) (checkIn (g .width) (g .height) (g .blocked) l) (Refused State)

@@ -4,7 +4,8 @@ ghost use Prim.Native.Nat.{_*_, _≤_};
 ghost use lib.ListN.{length};
 ghost use Rattle.cells.specs.Cells.{mostSide};
 ghost use Rattle.pairs.specs.Pairs.{Even};
-ghost use Rattle.checks.specs.Checks.{freeAt, clearOf, checkIn};
+ghost use Rattle.checks.specs.Checks.{freeAt, clearOf, checkIn, checkOf};
+use grid::Grid;
 use grid::Verdict;
 use pairs::Bad;
 use points::Point;
@@ -57,4 +58,15 @@ pub fn check_list(blocked: &[u8], w: usize, h: usize, list: &[i32]) -> Verdict
         return Verdict::Yes;
     }
     Verdict::No
+}
+
+// The route check on a grid. Refuses STATE, LIST, POINT.
+pub fn check_route(g: Grid, list: &[i32]) -> Verdict
+    ensures { λ r. ⌜ r ≡ checkOf g (now (list .entry)) ⌝ }
+{
+    if !grid::legal(g) {
+        return Verdict::Refused(Refusal::State);
+    }
+    let blocked = g.blocked;
+    check_list(&blocked, g.width, g.height, list)
 }

@@ -1,4 +1,4 @@
--- A map that was read has sides and points in range; the route check by its first test. Assumes nothing.
+-- A map that was read has sides and points in range. Assumes nothing.
 use mathlib.Core.Path.{_≡_, refl, sym, ap, subst}
 use mathlib.Core.Bool.{Bool, true, false, cond, _&&_}
 use mathlib.Core.List.{List}
@@ -6,14 +6,10 @@ use Prim.Native.Nat.{ℕ, _<_}
 use native.Mathlib.Omega.{arith}
 use borrow.Author.Tests.{leb-true}
 use lib.Dec.{T, leb, ltb}
-use lib.IntN.{ℤ}
 use lib.ListN.{length, drop}
-use Rattle.points.specs.declared.Refusal.the-variants.{State}
 use Rattle.cells.specs.Cells.{mostSide, sizedOf}
 use Rattle.cells.specs.Cells.{Sides}
-use Rattle.grid.specs.Grids.{legalOf, zeros, newGrid, newOutcome}
-use Rattle.grid.specs.declared.Grid.{Grid}
-use Rattle.grid.specs.declared.Verdict.the-variants.{Refused}
+use Rattle.grid.specs.Grids.{zeros, newGrid, newOutcome}
 use Rattle.rows.specs.Rows.{rowsOf}
 use Rattle.rows.specs.declared.Rows.{Rows}
 use Rattle.rows.specs.declared.Rows.the-variants.{Good, Bad as BadRow}
@@ -24,8 +20,7 @@ use Rattle.maps.specs.declared.Head.the-variants.{Of, Bad as BadHead}
 use Rattle.maps.specs.declared.Reading.{Reading}
 use Rattle.maps.specs.declared.Reading.the-variants.{Map, Bad}
 use Rattle.maps.proofs.Laws.{HBounded, head-fair, side-most}
-use Rattle.checks.specs.Checks.{checkIn}
-use Rattle.floors.specs.Floors.{readAs, readOf, checkOf}
+use Rattle.floors.specs.Floors.{readAs, readOf}
 
 -- ---- a map that was read
 same : (a b : Header) → Map a ≡ Map b → a ≡ b
@@ -63,16 +58,6 @@ fair-sides m f = record { some = side-some (m .width) (f .wide); wide = side-mos
 pub new-one : newOutcome 1 1 .grid ≡ newGrid 1 1
 unfolding newOutcome sizedOf
 new-one = refl
-
--- ---- the route check: STATE first
-module _ (g : Grid) (l : List ℤ) where
-  pub check-state : legalOf g ≡ false → Refused State ≡ checkOf g l
-  unfolding checkOf
-  check-state e = rw e
-
-  pub check-held : legalOf g ≡ true → checkIn (g .width) (g .height) (g .blocked) l ≡ checkOf g l
-  unfolding checkOf
-  check-held e = rw e
 
 -- ---- the whole reading
 pub read-is : (t : List ℕ) (r : Reading) → mapOf t ≡ r → readAs (cellsInto t zeros) r ≡ readOf t

@@ -1,10 +1,10 @@
--- A map text as a grid by value, and the route check. Assumes nothing: these are definitions.
+-- A map text as a grid by value. Assumes nothing: these are definitions.
 use mathlib.Core.Bool.{Bool, true, cond}
 use mathlib.Core.List.{List}
 use Prim.Native.Nat.{ℕ, _*_}
 use lib.Dec.{ltb}
 use lib.Seq.{sets}
-use lib.IntN.{ℤ, pos}
+use lib.IntN.{pos}
 use lib.ListN.{length, getD}
 use Rattle.points.specs.declared.Point.{Point}
 use Rattle.points.specs.declared.Refusal.the-variants.{State, Room, Map as MapBroken, BadPoint}
@@ -13,15 +13,12 @@ use Rattle.fills.specs.Fills.{maskAt, fillTo}
 use Rattle.grid.specs.Grids.{legalOf, zeros, newGrid}
 use Rattle.grid.specs.declared.Grid.{Grid}
 use Rattle.grid.specs.declared.Outcome.the-variants.{Done, Refused as RefusedOutcome}
-use Rattle.grid.specs.declared.Verdict.{Verdict}
-use Rattle.grid.specs.declared.Verdict.the-variants.{Refused}
 use Rattle.points.specs.Plane.{legal}
 use Rattle.maps.specs.Maps.{mostText, mapOf, cellsInto}
 use Rattle.map_printing.specs.Shown.{mapText}
 use Rattle.maps.specs.declared.Header.{Header}
 use Rattle.maps.specs.declared.Reading.{Reading}
 use Rattle.maps.specs.declared.Reading.the-variants.{Map, Bad}
-use Rattle.checks.specs.Checks.{checkIn}
 use Rattle.floors.specs.declared.MapRead.{MapRead}
 use Rattle.floors.specs.declared.Put.{Put}
 use Rattle.floors.specs.declared.Put.the-variants.{Bytes, Refused as RefusedPut}
@@ -53,10 +50,6 @@ readAs blocked (Bad n) = refusedMap n
 -- the map of a text, its cells in a table of free ones
 unfoldable pub readOf : List ℕ → MapRead
 readOf t = readAs (cellsInto t zeros) (mapOf t)
-
--- STATE, LIST, POINT
-unfoldable pub checkOf : Grid → List ℤ → Verdict
-checkOf g l = cond (legalOf g) (checkIn (g .width) (g .height) (g .blocked) l) (Refused State)
 
 -- the text of a grid's cells, with an order to route
 abbrev pub headerOf : Grid → Bool → Point → Point → Header

@@ -1,11 +1,10 @@
-// Map texts as grids by value, and the route check on a grid by value.
+// Map texts as grids by value.
 ghost use mathlib.Core.Path.{_≡_};
 ghost use lib.ListN.{length};
 ghost use Rattle.cells.specs.Cells.{Sides};
-ghost use Rattle.floors.specs.Floors.{floorGrid, refusedMap, readOf, checkOf, shownOf, putOf, putInto};
+ghost use Rattle.floors.specs.Floors.{floorGrid, refusedMap, readOf, shownOf, putOf, putInto};
 use grid::Grid;
 use grid::Outcome;
-use grid::Verdict;
 use maps::Header;
 use maps::Reading;
 use points::Point;
@@ -90,17 +89,6 @@ pub fn read_map(text: &[u8]) -> MapRead
             }
         }
     }
-}
-
-// The route check on a grid. Refuses STATE, LIST, POINT.
-pub fn check_route(g: Grid, list: &[i32]) -> Verdict
-    ensures { λ r. ⌜ r ≡ checkOf g (now (list .entry)) ⌝ }
-{
-    if !grid::legal(g) {
-        return Verdict::Refused(Refusal::State);
-    }
-    let blocked = g.blocked;
-    checks::check_list(&blocked, g.width, g.height, list)
 }
 
 // Writes a grid's cells with an order to route as a map text; the rest of the room is kept.

@@ -1,5 +1,6 @@
-// The rebuild of a grid's components over lent slices. The state is legal where it is asked for, and is not tested.
+// The rebuild of a grid's components over lent slices, and the update, which rebuilds if dirty. The state is legal where it is asked for, and is not tested.
 ghost use mathlib.Core.Path.{_≡_};
+ghost use mathlib.Core.Bool.{false, cond};
 ghost use Prim.Native.Nat.{_*_, _≤_, _<_};
 ghost use lib.ListN.{length};
 ghost use Rattle.components.specs.Components.{Forest, Light};
@@ -62,4 +63,25 @@ pub fn rebuild(
     for x in 0..w {
         rebuild_column(w, h, diagonal, blocked, parent, rank, x);
     }
+}
+
+// `update`: a rebuild if dirty. The answer is the mark afterwards.
+pub fn update(
+    w: usize,
+    h: usize,
+    diagonal: bool,
+    dirty: bool,
+    blocked: &[u8],
+    parent: &mut [u16],
+    rank: &mut [u8],
+) -> bool
+    requires { ⌜ Sides w h × (w * h ≤ length (now blocked)) × (w * h ≤ length (now parent)) × (w * h ≤ length (now rank)) ⌝ }
+    ensures { λ r. ⌜ (r ≡ false) × (record { parent = now (parent .exit); rank = now (rank .exit) }
+        ≡ cond dirty (rebuiltLinks w h diagonal (now (blocked .entry)) (now (parent .entry)) (now (rank .entry))) (record { parent = now (parent .entry); rank = now (rank .entry) })) ⌝ }
+{
+    if dirty {
+        rebuild(w, h, diagonal, blocked, parent, rank);
+        return false;
+    }
+    false
 }

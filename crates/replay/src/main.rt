@@ -4,13 +4,13 @@
 // oracle/tools that printed it: 1 ground, 2 tables, 3 searches, 4 paths, 5 checks, 6 texts.
 mod answers; // what is compared and counted
 mod blocks; // the next block, and what is printed
-mod checks;
 mod examples;
 mod grids; // grids by calls and by their tables
 mod ground;
 mod searches;
 mod tables;
 mod texts;
+mod verdicts; // route checks
 mod walks; // paths
 
 use answers::Tally;
@@ -69,7 +69,7 @@ fn alone(kind: u8, s: &[u8]) -> Tally {
     match kind {
         1 => ground::replay(s),
         4 => answers::one(14, walks::replay(s)),
-        5 => answers::one(15, checks::replay(s)),
+        5 => answers::one(15, verdicts::replay(s)),
         6 => answers::one(16, texts::replay(s)),
         _ => answers::one(0, 1),
     }

@@ -49,8 +49,8 @@ use Rattle.maps.specs.declared.Head.the-variants.{Of, Bad as BadHead}
 use Rattle.maps.specs.declared.Reading.{Reading}
 use Rattle.maps.specs.declared.Reading.the-variants.{Map, Bad}
 use Rattle.maps.proofs.Laws.{HBounded, head-fair, side-most}
-use Rattle.checks.specs.Checks.{clearOf, judged, checkIn}
-use Rattle.floors.specs.Floors.{readAs, readOf, checkOf}
+use Rattle.checks.specs.Checks.{clearOf, judged, checkIn, checkOf}
+use Rattle.floors.specs.Floors.{readAs, readOf}
 use lib.Seq.{sets}
 use Rattle.answers.specs.Answers.{badText}
 use Rattle.grid.specs.Grids.{rebuildOutcome}

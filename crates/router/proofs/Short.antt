@@ -26,7 +26,8 @@ use Rattle.printing.specs.Render.{numberText, pointText}
 use Rattle.printing.proofs.Written.{number-text-length, point-text-length}
 use Rattle.pairs.specs.Pairs.{point}
 use Rattle.answers.specs.Answers.{resultWord, popsWord, waypointsWord, clearWord, pointWord, lineWord, pointsText, answerText, badText}
-use Rattle.floors.specs.Floors.{readOf, checkOf}
+use Rattle.checks.specs.Checks.{checkOf}
+use Rattle.floors.specs.Floors.{readOf}
 use Rattle.floors.specs.declared.MapRead.{MapRead}
 use Rattle.router.specs.Route.{settingsFor, exactOf, checkedText, foundText, blank, mapTold, routeText, mostPrint}
 

@@ -24,7 +24,8 @@ use Rattle.grid.specs.declared.Verdict.{Verdict}
 use Rattle.grid.specs.declared.Verdict.the-variants.{Yes, No, Refused as RefusedCheck}
 use Rattle.answers.specs.Answers.{answerText, badText}
 use Rattle.floors.specs.declared.MapRead.{MapRead}
-use Rattle.floors.specs.Floors.{readOf, checkOf}
+use Rattle.checks.specs.Checks.{checkOf}
+use Rattle.floors.specs.Floors.{readOf}
 
 -- other settings are a new grid's
 abbrev pub settingsFor : Bool → Settings

@@ -25,12 +25,6 @@ module _ (w h : ℕ) (diagonal : Bool) (t : Tables) (x y : ℕ) (b : Bool) (bloc
   unfolding editOf
   edit-joins p k q e = rw (e₁, e₂, e₃, q, ap (λ (v : Links). v .parent) e, ap (λ (v : Links). v .rank) e)
 
-pub picked : (d : Bool) (u v z : Links) → d ≡ true → z ≡ u → z ≡ cond d u v
-picked d u v z e f = rw e f
-
-pub picked-not : (d : Bool) (u v : Links) → d ≡ false → v ≡ cond d u v
-picked-not d u v e = rw e
-
 -- what `rebuild` and `update` leave, as tables
 pub rebuild-leaves : (w h : ℕ) (diagonal : Bool) (t : Tables) (p k : List ℕ)
     → _≡_ {A = Links} (record { parent = p; rank = k }) (rebuiltLinks w h diagonal (t .blocked) (t .parent) (t .rank))

@@ -1,11 +1,9 @@
-// The tables of a grid over lent slices: a new one, an edit, an update. The state is legal where it is asked for, and is not tested.
+// The tables of a grid over lent slices: a new one, an edit. The state is legal where it is asked for, and is not tested.
 ghost use mathlib.Core.Path.{_≡_};
-ghost use mathlib.Core.Bool.{false, cond};
-ghost use Prim.Native.Nat.{_*_, _≤_};
-ghost use lib.ListN.{length};
+ghost use mathlib.Core.Bool.{false};
+ghost use Prim.Native.Nat.{_*_};
 ghost use Rattle.components.specs.Components.{Forest};
 ghost use Rattle.cells.specs.Cells.{Sides, Within};
-ghost use Rattle.rebuilds.specs.Rebuilds.{rebuiltLinks};
 ghost use Rattle.tables.specs.Tables.{Room, newOf, editOf};
 
 // A new grid: all free, its masks, singletons.
@@ -57,25 +55,4 @@ pub fn edit(
     joins::join_around(w, h, diagonal, blocked, parent, rank, x, y);
     refresh::edit_cell(w, h, diagonal, blocked, neighbours, forced, x, y, b);
     dirty
-}
-
-// `update`: a rebuild if dirty. The answer is the mark afterwards.
-pub fn update(
-    w: usize,
-    h: usize,
-    diagonal: bool,
-    dirty: bool,
-    blocked: &[u8],
-    parent: &mut [u16],
-    rank: &mut [u8],
-) -> bool
-    requires { ⌜ Sides w h × (w * h ≤ length (now blocked)) × (w * h ≤ length (now parent)) × (w * h ≤ length (now rank)) ⌝ }
-    ensures { λ r. ⌜ (r ≡ false) × (record { parent = now (parent .exit); rank = now (rank .exit) }
-        ≡ cond dirty (rebuiltLinks w h diagonal (now (blocked .entry)) (now (parent .entry)) (now (rank .entry))) (record { parent = now (parent .entry); rank = now (rank .entry) })) ⌝ }
-{
-    if dirty {
-        rebuilds::rebuild(w, h, diagonal, blocked, parent, rank);
-        return false;
-    }
-    false
 }

@@ -1,7 +1,7 @@
 -- `router::put_found` meets its contract, by what the check says. Assumes nothing.
 use Rattle.router.proofs.Laws.{by-text, Fine, checked-fine}
 use Rattle.router.specs.Route.{checkedText}
-use Rattle.floors.specs.Floors.{checkOf}
+use Rattle.checks.specs.Checks.{checkOf}
 use Rattle.grid.specs.declared.Verdict.the-variants.{Yes, No, Refused}
 use Rattle.grid.specs.declared.Verdict.{Verdict}
 use denote.Ref.{now}

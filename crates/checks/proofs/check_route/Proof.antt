@@ -1,14 +1,14 @@
--- `floors::check_route` meets its contract: STATE, then the check over the grid's cells. Assumes nothing.
+-- `checks::check_route` meets its contract: STATE, then the check over the grid's cells. Assumes nothing.
 use mathlib.Core.Path.{_≡_, sym, _∙_}
 use denote.Ref.{now}
 use native.Mathlib.Omega.{arith}
 use lib.ListN.{length}
 use borrow.Author.Tests.{not-true, not-false}
 use Rattle.grid.proofs.Tests.{of-legal}
-use Rattle.floors.proofs.Laws.{check-state, check-held}
+use Rattle.checks.proofs.Laws.{check-state, check-held}
 use borrow.Author.Needs.{needs}
-use Rattle.floors.proofs.check_route.Statement.{statement}
-use Rattle.floors.proofs.check_route.Tie as tie
+use Rattle.checks.proofs.check_route.Statement.{statement}
+use Rattle.checks.proofs.check_route.Tie as tie
 
 legal-requires : tie.Need-legal-requires
 legal-requires c κs = search needs

@@ -1,8 +1,8 @@
--- `replay::checks::with_cells` is safe and ends: one cell a turn. Assumes nothing.
+-- `replay::verdicts::with_cells` is safe and ends: one cell a turn. Assumes nothing.
 use Prim.Native.Nat.{_-_, _≤_}
 use native.Mathlib.Omega.{arith}
-use Rattle.replay.proofs.checks.with_cells.Statement.{statement}
-use Rattle.replay.proofs.checks.with_cells.Tie as tie
+use Rattle.replay.proofs.verdicts.with_cells.Statement.{statement}
+use Rattle.replay.proofs.verdicts.with_cells.Tie as tie
 
 abbrev Inv-loop : tie.InvT-loop
 Inv-loop s count out₀ k₀ out k = k ≤ count

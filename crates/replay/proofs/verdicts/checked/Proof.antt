@@ -1,10 +1,10 @@
--- `replay::checks::checked` is safe: the part that is lent is within the list. Assumes nothing.
+-- `replay::verdicts::checked` is safe: the part that is lent is within the list. Assumes nothing.
 use native.Mathlib.Omega.{arith}
 use mathlib.Core.Path.{sym}
 use lib.Seq.{length-take-le}
 use borrow.Author.Needs.{needs}
-use Rattle.replay.proofs.checks.checked.Statement.{statement}
-use Rattle.replay.proofs.checks.checked.Tie as tie
+use Rattle.replay.proofs.verdicts.checked.Statement.{statement}
+use Rattle.replay.proofs.verdicts.checked.Tie as tie
 
 fill-requires : tie.Need-fill-requires
 fill-requires c κs = search needs

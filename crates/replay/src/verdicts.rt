@@ -37,7 +37,7 @@ fn checked(g: Grid, s: &[u8], at: usize, count: usize, list: &mut [i32]) -> Verd
     requires { ⌜ count ≤ length (now list) ⌝ }
 {
     answers::fill(s, at, count, list);
-    floors::check_route(g, &list[..count])
+    checks::check_route(g, &list[..count])
 }
 
 // 0 where the verdict is the list's: its result, the point that POINT carries, and 1 if clear.
