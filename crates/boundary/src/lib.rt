@@ -27,8 +27,8 @@ use points::Refusal;
 use replies::Route;
 use replies::routed;
 
-mod texts;
-mod walks;
+pub mod texts;
+pub mod walks;
 
 // The forced mask of a neighbour mask.
 #[no_mangle]

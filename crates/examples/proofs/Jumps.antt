@@ -39,6 +39,7 @@ jumps =
       neighbour-prices = (refl, refl);
       start-yields-neighbours = refl;
       others-yield-jumps = refl;
+      first-direction-followed = refl;
       priced-by-travel = refl;
       jumps-on = refl;
       levels-allowed = (refl, refl);

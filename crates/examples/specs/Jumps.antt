@@ -72,6 +72,10 @@ row = tables (zeros 4) (4 ∷ 4 ∷ 4 ∷ 0 ∷ []) (zeros 4) none
 abbrev pub rowPlan : Plan
 rowPlan = plan 4 1 (point 0 0) (point 3 0)
 
+-- a column of four cells, each with the one above as its neighbour and none forced
+abbrev pub column : Tables
+column = tables (zeros 4) (0 ∷ 1 ∷ 1 ∷ 1 ∷ []) (zeros 4) none
+
 -- 3 by 3 cells, the middle one blocked, with their own masks
 abbrev pub ring : Tables
 ring =
@@ -121,6 +125,8 @@ pub record Jumps : Type 0 where
   pub start-yields-neighbours : cellsOf (yieldOf row rowPlan 0 0 (begin 5 0)) ≡ 0 ∷ 1 ∷ []
   -- the node after it yields a jump, over the next cell to the goal
   pub others-yield-jumps : cellsOf (after row rowPlan 5 0 1 70) ≡ 0 ∷ 1 ∷ 3 ∷ []
+  -- direction 0 is followed as any other: from (0,3) up to the goal (0,0)
+  pub first-direction-followed : cellsOf (after column (plan 1 4 (point 0 3) (point 0 0)) 5 3 1 70) ≡ 3 ∷ 2 ∷ 0 ∷ []
   -- a straight step of a node that was reached diagonally: the direction of travel prices it at 99, its own were 70
   pub priced-by-travel : costsOf (after (tables (zeros 6) (0 ∷ 4 ∷ 0 ∷ 0 ∷ 0 ∷ 0 ∷ []) (zeros 6) none) (plan 3 2 (point 0 1) (point 2 0)) 7 3 2 99) ≡ 0 ∷ 70 ∷ 99 ∷ 70 ∷ 198 ∷ []
   -- the node after the start goes by the rules too: round the blocked middle it yields (2,0) and (2,1), and does not invent a way to the goal (2,2)

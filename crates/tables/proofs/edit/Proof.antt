@@ -17,16 +17,16 @@ blocks-free-requires : tie.Need-blocks-free-requires
 blocks-free-requires c κs = let s = c .before .before .before .before .before .before in omega (arith, inside (s .pre .0), s .pre .1 .blocked)
 
 edit-cell-requires : tie.Need-edit-cell-requires
-edit-cell-requires c κs = search needs
+edit-cell-requires c κs = let s = c .before .before .before .before .before .before .before .before .before .before .before in (s .pre .0, (s .pre .1 .blocked, (s .pre .1 .masks, s .pre .1 .forced)))
 
 same-length : tie.Need-same-length
-same-length c = search needs
+same-length c = c .before .before .before .before .before .before .edit-cell .kept .1 .1 .1 .0
 
 same-length-2 : tie.Need-same-length-2
-same-length-2 c = search needs
+same-length-2 c = c .before .before .before .before .before .before .edit-cell .kept .1 .1 .1 .1 .0
 
 same-length-3 : tie.Need-same-length-3
-same-length-3 c = search needs
+same-length-3 c = c .before .before .before .before .before .before .edit-cell .kept .1 .1 .1 .1 .1 .0
 
 returns : tie.Need-returns
 returns c =
@@ -34,25 +34,25 @@ returns c =
     Changes.edit-marks _ _ _ _ _ _ _ _ _ _ (g .0) (g .1 .0) (g .1 .1) (sym (c .before .before .before .before .before .before .before .before .before .before .before .blocks-free .ensures) ∙ c .before .before .before .before .before .before .before .before .before .before .if1 .taken)
 
 join-around-requires : tie.Need-join-around-requires
-join-around-requires c κs = search needs
+join-around-requires c κs = let s = c .before .before .before .before .before .before .before .before .before .before .before in (s .pre .0, s .pre .1 .blocked, s .pre .2)
 
 edit-cell-requires-2 : tie.Need-edit-cell-requires-2
-edit-cell-requires-2 c κs = search needs
+edit-cell-requires-2 c κs = let s = c .before .before .before .before .before .before .before .before .before .before .before .before .before .before .before .before .before .before .before in (s .pre .0, (s .pre .1 .blocked, (s .pre .1 .masks, s .pre .1 .forced)))
 
 same-length-4 : tie.Need-same-length-4
-same-length-4 c = search needs
+same-length-4 c = c .before .before .before .before .before .before .edit-cell2 .kept .1 .1 .1 .0
 
 same-length-5 : tie.Need-same-length-5
-same-length-5 c = search needs
+same-length-5 c = c .before .before .before .before .before .before .edit-cell2 .kept .1 .1 .1 .1 .0
 
 same-length-6 : tie.Need-same-length-6
-same-length-6 c = search needs
+same-length-6 c = c .before .before .before .before .before .before .edit-cell2 .kept .1 .1 .1 .1 .1 .0
 
 same-length-7 : tie.Need-same-length-7
-same-length-7 c = search needs
+same-length-7 c = c .before .before .before .before .before .before .before .before .before .before .before .before .before .before .join-around .kept .1 .1 .1 .1 .0
 
 same-length-8 : tie.Need-same-length-8
-same-length-8 c = search needs
+same-length-8 c = c .before .before .before .before .before .before .before .before .before .before .before .before .before .before .join-around .kept .1 .1 .1 .1 .1 .0
 
 returns-2 : tie.Need-returns-2
 returns-2 c =

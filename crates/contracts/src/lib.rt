@@ -1,0 +1,1 @@
+// No code: what is proved of the contracts of the public calls.
