@@ -1,6 +1,6 @@
 -- The definitions of the expansion, by what its tests and calls say. Assumes nothing.
-use mathlib.Core.Path.{_≡_, refl}
-use mathlib.Core.Bool.{true, false}
+use mathlib.Core.Path.{_≡_, refl, sym, _∙_}
+use mathlib.Core.Bool.{Bool, true, false}
 use Prim.Native.Nat.{ℕ, zero, suc, _+_, _-_, _%_}
 use native.Mathlib.Omega.{arith}
 use Rattle.headings.specs.Headings.{headingOf}
@@ -51,6 +51,17 @@ module _ (t : Tables) (p : Plan) (from : ℕ) (above : Point) (c : Cell) (k : �
   unfolding deeperAt
   deeper-more zero f = absurd (f refl)
   deeper-more (suc m) f = let z : suc m - 1 ≡ m = omega arith in rw z
+
+-- following a direction whose jump found a cell
+module _ (t : Tables) (p : Plan) (from depth : ℕ) (above : Point) (base e : ℕ) (s : State) (j : Jump) (c : Cell) (k : ℕ) (z : At c k ≡ j) (again : Bool) (a : again ≡ againAt (t .forced) (t .goals) p e c) where
+  pub found-none : depth ≡ 0 → again ≡ true → no Depth ≡ reached t p from (deeperAt t p from depth above) base e s j
+  found-none m q = deeper-none t p from above c (base + k) s depth m ∙ reached-deep t p from (deeperAt t p from depth above) base e s j c k z (sym a ∙ q)
+
+  pub found-more : (o : Out) → (depth ≡ 0 → ⊥) → again ≡ true → o ≡ expandAt t p from (depth - 1) above c (base + k) s → o ≡ reached t p from (deeperAt t p from depth above) base e s j
+  found-more o m q r = r ∙ deeper-more t p from above c (base + k) s depth m ∙ reached-deep t p from (deeperAt t p from depth above) base e s j c k z (sym a ∙ q)
+
+  pub found-give : (o : Out) → again ≡ false → o ≡ giveOf (t .goals) p from c (base + k) s → o ≡ reached t p from (deeperAt t p from depth above) base e s j
+  found-give o q r = r ∙ reached-give t p from (deeperAt t p from depth above) base e s j c k z (sym a ∙ q)
 
 -- expanding a cell
 module _ (t : Tables) (p : Plan) (along : Point → Cell → ℕ → ℕ → ℕ → ℕ → State → Out) (above : Point) (node : Cell) (base : ℕ) (s : State) where

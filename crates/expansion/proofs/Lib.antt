@@ -1,5 +1,6 @@
 pub mod Laws
 pub mod Skips
 pub mod Keeps
+mod Turns
 pub mod Leaps
 pub mod Starts

@@ -1,11 +1,11 @@
 -- What the search of a plan asks of lent slices, and what it leaves for its waypoints. Assumes nothing.
 use mathlib.Core.Path.{_≡_, ap, sym, _∙_}
-use mathlib.Core.List.{List}
+use mathlib.Core.List.{List, _++_}
 use Prim.Native.Nat.{ℕ, _+_, _*_, _^_, _<_, _≤_}
 use native.Mathlib.Nat.{mul-comm}
 use native.Mathlib.Omega.{arith}
 use lib.IntN.{ℤ}
-use lib.ListN.{length, getD, take, length-take}
+use lib.ListN.{length, take, drop, length-append, length-take, length-drop}
 use lib.Seq.{length-take-le}
 use Rattle.points.specs.declared.Refusal.{Refusal}
 use Rattle.goals.specs.declared.Plan.{Plan}
@@ -59,6 +59,10 @@ module _ {goals : List ℤ} {p : Plan} (l : Legal goals p) where
   start-in c e = omega (arith, e, cell-of-le (p .w) (p .h) (p .start), area)
 
 -- ---- what it leaves
+
+-- a list whose first places were lent and came back
+pub put-back : (n : ℕ) (l l′ : List ℕ) → n ≤ length l → length l′ ≡ length (take n l) → length (l′ ++ drop n l) ≡ length l
+put-back n l l′ h e = omega (arith, length-append l′ (drop n l), length-drop n l, length-take-le n l h)
 
 module _ (t : Tables) (p : Plan) (start : ℕ) (legal : Legal (t .goals) p) (hs : start ≤ areaOf p) (number place parent cost keys idx : List ℕ) (i k n : ℕ) (m : Mark)
     (e : found i k n (view number place parent cost keys idx m) ≡ searchFor t p start) where

@@ -37,7 +37,7 @@ use Rattle.cells.specs.Cells.{Sides}
 use Rattle.plans.specs.declared.Lengths.{Lengths}
 use Rattle.plans.specs.Plans.{readyOf, barredOf, planOf, kindOf}
 use Rattle.finder.specs.declared.Answer.{Answer}
-use Rattle.finder.specs.Find.{Ground, Covered, Roomy, lengthsOf, early, answerOf, outAfter, startedIn, pairOf, singlePlan, singleOf, severalPlan, severalOf}
+use Rattle.finder.specs.Find.{Ground, Covered, Roomy, ground, lengthsOf, early, answerOf, outAfter, startedOf, startedIn, pairOf, singlePlan, singleOf, severalPlan, severalOf}
 
 -- a point's cell is a place
 pub cell-of-le : (w h : ℕ) (q : Point) → cellOf w h q ≤ w * h
@@ -173,6 +173,20 @@ module _ (g : Ground) (links : List ℕ) (s : Settings) (l : Lengths) (approxima
         unfolding singleOf
         single-open e = rw (a, b, c, e)
 
+-- past all its tests a single-goal search may be made, and what that answers is its answer
+module _ (w h : ℕ) (b e f links : List ℕ) (s : Settings) (number place parent cost keys idx : List ℕ) (approximate : Bool) (start goal : Point) (ready : readyOf s (lengthsOf number place parent cost keys idx) (w * h + 1) ≡ true) (from : legal start ≡ true) (to : legal goal ≡ true) (k : Goal) (p : Plan) (kind : k ≡ kindOf approximate goal) (same : p ≡ planOf w h s k start) where
+  pub single-asked : Sides w h → Covered (w * h) b e f → Legal (readPair goal) p × (Covered (p .w * p .h) b e f × Roomy (p .w * p .h + 1) (p .settings .fringe) number place parent cost keys idx)
+  single-asked sides covered =
+      let l : Legal (readPair goal) (planOf w h s k start) = rw (pair-read goal to, kind) (single-legal w h s (lengthsOf number place parent cost keys idx) start sides ready from approximate goal to) in
+      asked (readPair goal) p (planOf w h s k start) b e f number place parent cost keys idx same l covered (roomy s (w * h + 1) number place parent cost keys idx ready)
+
+  pub single-answer : (a : Answer) (room : ℕ) (out out′ : List ℤ) → barredOf w h links (s .diagonal) approximate start goal ≡ false → (a ≡ answerOf room (startedOf b e f (readPair goal) p)) × (out′ ≡ outAfter out p (startedOf b e f (readPair goal) p))
+      → (a ≡ answerOf room (singleOf (ground w h b e f) links s (lengthsOf number place parent cost keys idx) approximate start goal)) × (out′ ≡ outAfter out (singlePlan w h s approximate start goal) (singleOf (ground w h b e f) links s (lengthsOf number place parent cost keys idx) approximate start goal))
+  single-answer a room out out′ joined r =
+      handed a room out out′ (startedOf b e f (readPair goal)) p (singlePlan w h s approximate start goal) (singleOf (ground w h b e f) links s (lengthsOf number place parent cost keys idx) approximate start goal) r
+      (same ∙ ap (λ (x : Goal). planOf w h s x start) kind)
+      (ap (λ (x : List ℤ). startedOf b e f x (singlePlan w h s approximate start goal)) (pair-read goal to) ∙ single-open (ground w h b e f) links s (lengthsOf number place parent cost keys idx) approximate start goal ready from to joined)
+
 -- ---- the multiple-goal search, test by test
 
 never-listed : {P : Type 0} (w : Refusal) (k : ℕ) → Listed.Refused w ≡ Listed.Goals k → P
@@ -215,3 +229,17 @@ module _ (g : Ground) (s : Settings) (l : Lengths) (start : Point) (goals : List
         pub several-open : Nowhere ≡ badOf goals n 0 → startedIn g goals (severalPlan (g .w) (g .h) s start goals) ≡ severalOf g s l start goals
         unfolding severalOf
         several-open e = let z : Nowhere ≡ badOf goals (length goals / 2) 0 = e ∙ ap (λ (x : ℕ). badOf goals x 0) (count-is (length goals) n c .0) in rw (a, ← c, b, ← z)
+
+-- past all its tests a multiple-goal search may be made, and what that answers is its answer
+module _ (w h : ℕ) (b e f : List ℕ) (s : Settings) (number place parent cost keys idx : List ℕ) (start : Point) (goals : List ℤ) (ready : readyOf s (lengthsOf number place parent cost keys idx) (w * h + 1) ≡ true) (n : ℕ) (count : Listed.Goals n ≡ countOf (length goals)) (from : legal start ≡ true) (to : Nowhere ≡ badOf goals n 0) (p : Plan) (same : p ≡ planOf w h s (Several n) start) where
+  pub several-asked : Sides w h → Covered (w * h) b e f → Legal goals p × (Covered (p .w * p .h) b e f × Roomy (p .w * p .h + 1) (p .settings .fringe) number place parent cost keys idx)
+  several-asked sides covered =
+      let c = count-is (length goals) n count in
+      asked goals p (planOf w h s (Several n) start) b e f number place parent cost keys idx same (several-legal w h s (lengthsOf number place parent cost keys idx) start sides ready from goals n (c .1 .0) (c .1 .1) to) covered (roomy s (w * h + 1) number place parent cost keys idx ready)
+
+  pub several-answer : (a : Answer) (room : ℕ) (out out′ : List ℤ) → (a ≡ answerOf room (startedOf b e f goals p)) × (out′ ≡ outAfter out p (startedOf b e f goals p))
+      → (a ≡ answerOf room (severalOf (ground w h b e f) s (lengthsOf number place parent cost keys idx) start goals)) × (out′ ≡ outAfter out (severalPlan w h s start goals) (severalOf (ground w h b e f) s (lengthsOf number place parent cost keys idx) start goals))
+  several-answer a room out out′ r =
+      handed a room out out′ (startedOf b e f goals) p (severalPlan w h s start goals) (severalOf (ground w h b e f) s (lengthsOf number place parent cost keys idx) start goals) r
+      (same ∙ ap (λ (x : ℕ). planOf w h s (Several x) start) (count-is (length goals) n count .0))
+      (several-open (ground w h b e f) s (lengthsOf number place parent cost keys idx) start goals ready n count from to)

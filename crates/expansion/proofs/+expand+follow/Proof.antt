@@ -5,21 +5,21 @@ use mathlib.Core.Path.{_≡_, ap, sym, _∙_}
 use mathlib.Core.Bool.{true}
 use Prim.Native.Nat.{ℕ, _+_, _-_, _*_, _%_, _<_}
 use native.Mathlib.Omega.{arith}
-use lib.ListN.{length}
 use borrow.Fn.Kinds.{In}
 use borrow.Fn.PlainCycle.{Measures, is, falls, and}
 use Rattle.headings.specs.Headings.{headingOf}
-use Rattle.masks.specs.Masks.{hasBit, prunedIn}
+use Rattle.masks.specs.Masks.{hasBit}
 use Rattle.goals.specs.Goals.{mostSide}
-use Rattle.offers.proofs.Rounds.{Rounds, round-start, round-turn, round-halt, round-end}
+use Rattle.offers.specs.Search.{outOf, view}
+use Rattle.offers.proofs.Rounds.{Rounds, round-start}
 use Rattle.jumps.specs.Jumps.{jumpOf}
 use Rattle.stops.specs.declared.Jump.the-variants.{At}
 use Rattle.stops.proofs.Laws.{held, wider, spot-legal}
 use Rattle.jumps.proofs.Found.{Landed, jump-found}
 use Rattle.expansion.specs.Expand.{tables, followAt}
-use Rattle.expansion.proofs.Laws.{follow-on, reached-none, reached-give, reached-deep, deeper-none, deeper-more, expand-same, expand-each}
+use Rattle.expansion.proofs.Laws.{reached-none, found-none, found-more, found-give, expand-same}
 use Rattle.expansion.proofs.Skips.{round-skip}
-use Rattle.expansion.proofs.Keeps.{follow-fit}
+use Rattle.expansion.proofs.Turns.{Faced, faced, price-fits, finished, halted, turned}
 use Rattle.expansion.proofs.expand.Reads as expand
 use Rattle.expansion.proofs.expand.Kinds as expand-kinds
 use Rattle.expansion.proofs.+expand+follow.Lts-expand as expand-lts
@@ -77,10 +77,10 @@ expand-direction-between-requires : (t : ℕ) → expand-lts.Need-direction-betw
 expand-direction-between-requires t c κs = let r = c .before .before .before .before .before .before .before .before .before .before .pre .1 in (r .seen, rw (c .spot .ensures) (spot-legal (wider (r .floors .sized .wide) (r .floors .sized .high) (r .inside))))
 
 expand-enum-known-travel : (t : ℕ) → expand-lts.Need-enum-known-travel (expand-claims t) (expand-at t) expand.Post expand-Inv-loop expand-μ-loop
-expand-enum-known-travel t c = search needs
+expand-enum-known-travel t c = c .match .keys1
 
 expand-enum-told : (t : ℕ) → expand-lts.Need-enum-told (expand-claims t) (expand-at t) expand.Post expand-Inv-loop expand-μ-loop
-expand-enum-told t c = search needs
+expand-enum-told t c = c .match .keys2
 
 expand-returns : (t : ℕ) → expand-lts.Need-returns (expand-claims t) (expand-at t) expand.Post expand-Inv-loop expand-μ-loop
 expand-returns t c = expand-same _ _ _ _ _ _ _ _ (sym (c .enum-told .given .1) ∙ c .before .before .direction-between .ensures ∙ ap (headingOf (c .before .before .before .before .before .before .before .before .before .before .before .before .before .args .above)) (c .before .before .before .spot .ensures))
@@ -109,12 +109,12 @@ expand-follow-requires t c κs =
       omega (arith, s .pre .0),
       (
         record { floors = r .floors; lent = i .lent; seen = r .seen; inside = r .inside; known = omega (arith, r .known, i .sizes .number); cheap = r .cheap },
-        (c .before .before .before .before .before .before .loop-test .taken, (omega (arith, k), omega (arith, k))),
+        (c .before .before .before .before .before .before .loop-test .taken, price-fits (c .before .before .before .before .before .before .before .before .before .before .before .before .before .travel .given .0 .0 .number) (c .before .before .before .before .before .before .before .before .before .price-of .result) k),
       ),
     )
 
 expand-enum-known-fate : (t : ℕ) → expand-lts.Need-enum-known-fate (expand-claims t) (expand-at t) expand.Post expand-Inv-loop expand-μ-loop
-expand-enum-known-fate t c = search needs
+expand-enum-known-fate t c = c .match2 .keys1
 
 expand-same-length : (t : ℕ) → expand-lts.Need-same-length (expand-claims t) (expand-at t) expand.Post expand-Inv-loop expand-μ-loop
 expand-same-length t c = c .before .before .before .before .before .before .before .before .before .before .before .before .before .before .before .follow .kept .1 .1 .1 .1 .0 ∙ c .before .before .before .before .before .before .before .before .before .before .before .before .before .before .before .before .before .before .before .before .before .before .before .loop .inv .0 .sizes .number
@@ -134,16 +134,21 @@ expand-same-length-5 t c = c .before .before .before .before .before .before .be
 expand-same-length-6 : (t : ℕ) → expand-lts.Need-same-length-6 (expand-claims t) (expand-at t) expand.Post expand-Inv-loop expand-μ-loop
 expand-same-length-6 t c = c .before .before .before .before .before .before .before .before .before .before .before .before .before .before .before .follow .kept .1 .1 .1 .1 .1 .1 .1 .1 .1 .0 ∙ c .before .before .before .before .before .before .before .before .before .before .before .before .before .before .before .before .before .before .before .before .before .before .before .loop .inv .0 .sizes .idx
 
+-- how the cell was reached, at the loop
+expand-faced : (t : ℕ) (c : expand-lts.At-loop (expand-claims t) (expand-at t) expand.Post expand-Inv-loop expand-μ-loop) → Faced (tables (c .before .before .before .before .before .before .before .before .before .before .before .before .before .before .before .before .before .before .before .args .blocked .now) (c .before .before .before .before .before .before .before .before .before .before .before .before .before .before .before .before .before .before .before .args .neighbours .now) (c .before .before .before .before .before .before .before .before .before .before .before .before .before .before .before .before .before .before .before .args .forced .now) (c .before .before .before .before .before .before .before .before .before .before .before .before .before .before .before .before .before .before .before .args .goals .now)) (c .before .before .before .before .before .before .before .before .before .before .before .before .before .before .before .before .before .before .before .args .p) (c .before .before .before .before .before .before .before .before .before .before .before .before .before .before .before .before .before .before .before .args .above) (c .before .before .before .before .before .before .before .before .before .before .before .before .before .before .before .before .before .before .before .args .node) (c .before .before .before .pruned-mask .result) (c .before .before .price-of .result) (c .before .before .before .before .before .before .travel .given .0 .0)
+expand-faced t c =
+    let s = c .before .before .before .before .before .before .before .before .before .before .before .before .before .before .before .before .before .before .before in
+    faced (tables (s .args .blocked .now) (s .args .neighbours .now) (s .args .forced .now) (s .args .goals .now)) (s .args .p) (s .args .above) (s .args .node) (c .before .before .before .pruned-mask .result) (c .before .before .price-of .result) (c .before .before .before .before .before .before .travel .given .0 .0) (c .before .before .before .before .before .before .before .before .before .spot .result) (c .before .before .before .before .before .before .before .before .direction-between .result) (c .before .before .before .before .byte .result) (c .before .before .before .before .before .before .before .before .before .spot .ensures) (c .before .before .before .before .before .before .before .before .direction-between .ensures) (c .before .before .before .before .before .before .travel .given .1) (c .before .before .before .before .byte .ensures) (c .before .before .before .pruned-mask .ensures) (c .before .before .price-of .ensures)
+
 expand-returns-2 : (t : ℕ) → expand-lts.Need-returns-2 (expand-claims t) (expand-at t) expand.Post expand-Inv-loop expand-μ-loop
 expand-returns-2 t c =
-    round-halt _ _ _ _ _ _ _ _ _ _ _ _ _ _ _ _ _ _ (c .before .before .before .before .before .before .before .before .before .before .before .before .before .before .before .before .before .before .before .before .before .before .before .loop .inv .0) _ _ _ _ _ _ _ (c .before .before .before .before .before .before .before .before .before .before .before .before .before .before .before .before .before .before .before .before .before .before .loop-test .taken) (c .before .before .before .before .before .before .before .before .before .before .before .before .before .before .before .follow .ensures ∙ follow-on _ _ _ _ _ _ _ _ _ _ _ (c .before .before .before .before .before .before .before .before .before .before .before .before .before .before .before .before .before .before .before .before .before .before .before .loop .inv .1 (c .before .before .before .before .before .before .before .before .before .before .before .before .before .before .before .before .before .before .before .before .before .before .loop-test .taken))) _ (c .before .fate .given .1)
-    ∙ expand-each _ _ _ _ _ _ _ _ _ _
-    (sym (c .before .before .before .before .before .before .before .before .before .before .before .before .before .before .before .before .before .before .before .before .before .before .before .before .before .before .before .before .before .travel .given .1) ∙ c .before .before .before .before .before .before .before .before .before .before .before .before .before .before .before .before .before .before .before .before .before .before .before .before .before .before .before .before .before .before .before .direction-between .ensures ∙ ap (headingOf (c .before .before .before .before .before .before .before .before .before .before .before .before .before .before .before .before .before .before .before .before .before .before .before .before .before .before .before .before .before .before .before .before .before .before .before .before .before .before .before .before .before .before .args .above)) (c .before .before .before .before .before .before .before .before .before .before .before .before .before .before .before .before .before .before .before .before .before .before .before .before .before .before .before .before .before .before .before .before .spot .ensures))
-    (c .before .before .before .before .before .before .before .before .before .before .before .before .before .before .before .before .before .before .before .before .before .before .before .before .before .before .pruned-mask .ensures ∙ ap (prunedIn (c .before .before .before .before .before .before .before .before .before .before .before .before .before .before .before .before .before .before .before .before .before .before .before .before .before .before .before .before .before .before .before .before .before .before .before .before .before .before .before .before .before .before .args .p .settings .diagonal) (c .before .before .before .before .before .before .before .before .before .before .before .before .before .before .before .before .before .before .before .before .before .before .before .before .before .before .before .before .before .travel .given .0 .0 .number % 8)) (c .before .before .before .before .before .before .before .before .before .before .before .before .before .before .before .before .before .before .before .before .before .before .before .before .before .before .before .byte .ensures))
-    (c .before .before .before .before .before .before .before .before .before .before .before .before .before .before .before .before .before .before .before .before .before .before .before .before .before .price-of .ensures)
+    let s = c .before .before .before .before .before .before .before .before .before .before .before .before .before .before .before .before .before .before .before .before .before .before .before .before .before .before .before .before .before .before .before .before .before .before .before .before .before .before .before .before .before .before in
+    let l = c .before .before .before .before .before .before .before .before .before .before .before .before .before .before .before .before .before .before .before .before .before .before .before .loop in
+    let f = c .before .before .before .before .before .before .before .before .before .before .before .before .before .before .before .follow in
+    halted (tables (s .args .blocked .now) (s .args .neighbours .now) (s .args .forced .now) (s .args .goals .now)) (s .args .p) (s .args .from) (s .args .depth) (s .args .above) (s .args .node) (c .before .before .before .before .before .before .before .before .before .before .before .before .before .before .before .before .before .before .before .before .before .before .before .before .before .before .pruned-mask .result) (c .before .before .before .before .before .before .before .before .before .before .before .before .before .before .before .before .before .before .before .before .before .before .before .before .before .price-of .result) (s .args .base) (c .before .before .before .before .before .before .before .before .before .before .before .before .before .before .before .before .before .before .before .before .before .before .before .before .before .before .before .before .before .travel .given .0 .0) (expand-faced t (c .before .before .before .before .before .before .before .before .before .before .before .before .before .before .before .before .before .before .before .before .before .before .before)) (s .args .number .now) (s .args .place .now) (s .args .parent .now) (s .args .cost .now) (s .args .keys .now) (s .args .idx .now) (s .args .m) (l .number) (l .place) (l .parent) (l .cost) (l .keys) (l .idx) (l .n) (l .e) (l .inv .0) (c .before .before .before .before .before .before .before .before .before .before .before .before .before .before .before .before .before .before .before .before .before .before .loop-test .taken) (l .inv .1) (f .last .1 .1 .1 .1 .0) (f .last .1 .1 .1 .1 .1 .0) (f .last .1 .1 .1 .1 .1 .1 .0) (f .last .1 .1 .1 .1 .1 .1 .1 .0) (f .last .1 .1 .1 .1 .1 .1 .1 .1 .0) (f .last .1 .1 .1 .1 .1 .1 .1 .1 .1 .0) (f .result) (f .ensures) (c .before .fate .given .0 .0) (c .before .fate .given .1)
 
 expand-enum-told-2 : (t : ℕ) → expand-lts.Need-enum-told-2 (expand-claims t) (expand-at t) expand.Post expand-Inv-loop expand-μ-loop
-expand-enum-told-2 t c = search needs
+expand-enum-told-2 t c = c .match2 .keys2
 
 expand-add-next-of : (t : ℕ) → expand-lts.Need-add-next-of (expand-claims t) (expand-at t) expand.Post expand-Inv-loop expand-μ-loop
 expand-add-next-of t c = omega (arith, c .before .before .before .before .before .before .before .before .before .before .before .before .before .before .before .before .before .before .before .before .before .before .loop-test .taken)
@@ -157,14 +162,9 @@ expand-loop-less t c = omega (arith, c .before .before .before .before .before .
 expand-loop-again : (t : ℕ) → expand-lts.Need-loop-again (expand-claims t) (expand-at t) expand.Post expand-Inv-loop expand-μ-loop
 expand-loop-again t c =
     let s = c .before .before .before .before .before .before .before .before .before .before .before .before .before .before .before .before .before .before .before .before .before .before .before .before .before .before .before .before .before .before .before .before .before .before .before .before .before .before .before .before .before .before .before in
-    let r = s .pre .1 in
-    let k = c .before .before .before .before .before .before .before .before .before .before .before .before .before .before .before .before .before .before .before .before .before .before .before .before .before .before .price-of .ensures in (
-      round-skip _ _ _ _ _ _ _ _ _ _ _ _ _ _ _ _ _ _ _ _ _ _ _ _ _ (c .next-of2 .ensures .0)
-          (round-turn _ _ _ _ _ _ _ _ _ _ _ _ _ _ _ _ _ _ (c .before .before .before .before .before .before .before .before .before .before .before .before .before .before .before .before .before .before .before .before .before .before .before .before .loop .inv .0) _ _ _ _ _ _ _ (c .before .before .before .before .before .before .before .before .before .before .before .before .before .before .before .before .before .before .before .before .before .before .before .loop-test .taken) (c .before .before .before .before .before .before .before .before .before .before .before .before .before .before .before .before .follow .ensures ∙ follow-on _ _ _ _ _ _ _ _ _ _ _ (c .before .before .before .before .before .before .before .before .before .before .before .before .before .before .before .before .before .before .before .before .before .before .before .before .loop .inv .1 (c .before .before .before .before .before .before .before .before .before .before .before .before .before .before .before .before .before .before .before .before .before .before .before .loop-test .taken))) (c .before .before .enum-told2 .given .1)
-          (λ u v f q e. follow-fit (tables (s .args .blocked .now) (s .args .neighbours .now) (s .args .forced .now) (s .args .goals .now)) (s .args .p) (s .args .from) (length (s .args .number .now)) (r .lent .floor) _ _ _ _ _ _ _ (r .floors .sized .wide) (r .floors .sized .high) (r .inside) (omega (arith, k)) (omega (arith, k)) u v f q e)
-          (c .before .before .before .before .before .before .before .before .before .before .before .before .before .before .before .before .follow .kept .1 .1 .1 .1 .0) (c .before .before .before .before .before .before .before .before .before .before .before .before .before .before .before .before .follow .kept .1 .1 .1 .1 .1 .0) (c .before .before .before .before .before .before .before .before .before .before .before .before .before .before .before .before .follow .kept .1 .1 .1 .1 .1 .1 .0) (c .before .before .before .before .before .before .before .before .before .before .before .before .before .before .before .before .follow .kept .1 .1 .1 .1 .1 .1 .1 .0) (c .before .before .before .before .before .before .before .before .before .before .before .before .before .before .before .before .follow .kept .1 .1 .1 .1 .1 .1 .1 .1 .0) (c .before .before .before .before .before .before .before .before .before .before .before .before .before .before .before .before .follow .kept .1 .1 .1 .1 .1 .1 .1 .1 .1 .0)),
-      c .next-of2 .ensures .1,
-    )
+    let l = c .before .before .before .before .before .before .before .before .before .before .before .before .before .before .before .before .before .before .before .before .before .before .before .before .loop in
+    let f = c .before .before .before .before .before .before .before .before .before .before .before .before .before .before .before .before .follow in
+    (turned (tables (s .args .blocked .now) (s .args .neighbours .now) (s .args .forced .now) (s .args .goals .now)) (s .args .p) (s .args .from) (s .args .depth) (s .args .above) (s .args .node) (c .before .before .before .before .before .before .before .before .before .before .before .before .before .before .before .before .before .before .before .before .before .before .before .before .before .before .before .pruned-mask .result) (c .before .before .before .before .before .before .before .before .before .before .before .before .before .before .before .before .before .before .before .before .before .before .before .before .before .before .price-of .result) (s .args .base) (c .before .before .before .before .before .before .before .before .before .before .before .before .before .before .before .before .before .before .before .before .before .before .before .before .before .before .before .before .before .before .travel .given .0 .0) (expand-faced t (c .before .before .before .before .before .before .before .before .before .before .before .before .before .before .before .before .before .before .before .before .before .before .before .before)) (s .args .number .now) (s .args .place .now) (s .args .parent .now) (s .args .cost .now) (s .args .keys .now) (s .args .idx .now) (s .args .m) (l .number) (l .place) (l .parent) (l .cost) (l .keys) (l .idx) (l .n) (l .e) (l .inv .0) (c .before .before .before .before .before .before .before .before .before .before .before .before .before .before .before .before .before .before .before .before .before .before .before .loop-test .taken) (l .inv .1) (f .last .1 .1 .1 .1 .0) (f .last .1 .1 .1 .1 .1 .0) (f .last .1 .1 .1 .1 .1 .1 .0) (f .last .1 .1 .1 .1 .1 .1 .1 .0) (f .last .1 .1 .1 .1 .1 .1 .1 .1 .0) (f .last .1 .1 .1 .1 .1 .1 .1 .1 .1 .0) (f .result) (f .ensures) (s .pre .1) (c .before .before .enum-told2 .given .1) (f .kept .1 .1 .1 .1 .0) (f .kept .1 .1 .1 .1 .1 .0) (f .kept .1 .1 .1 .1 .1 .1 .0) (f .kept .1 .1 .1 .1 .1 .1 .1 .0) (f .kept .1 .1 .1 .1 .1 .1 .1 .1 .0) (f .kept .1 .1 .1 .1 .1 .1 .1 .1 .1 .0) (c .next-of2 .result) (c .next-of2 .ensures .0), c .next-of2 .ensures .1)
 
 expand-same-length-7 : (t : ℕ) → expand-lts.Need-same-length-7 (expand-claims t) (expand-at t) expand.Post expand-Inv-loop expand-μ-loop
 expand-same-length-7 t c = c .before .loop .inv .0 .sizes .number
@@ -186,11 +186,9 @@ expand-same-length-12 t c = c .before .loop .inv .0 .sizes .idx
 
 expand-returns-3 : (t : ℕ) → expand-lts.Need-returns-3 (expand-claims t) (expand-at t) expand.Post expand-Inv-loop expand-μ-loop
 expand-returns-3 t c =
-    round-end _ _ _ _ _ _ _ _ _ _ _ _ _ _ _ _ _ _ (c .before .loop .inv .0) (c .loop-test .left)
-    ∙ expand-each _ _ _ _ _ _ _ _ _ _
-    (sym (c .before .before .before .before .before .before .before .travel .given .1) ∙ c .before .before .before .before .before .before .before .before .before .direction-between .ensures ∙ ap (headingOf (c .before .before .before .before .before .before .before .before .before .before .before .before .before .before .before .before .before .before .before .before .args .above)) (c .before .before .before .before .before .before .before .before .before .before .spot .ensures))
-    (c .before .before .before .before .pruned-mask .ensures ∙ ap (prunedIn (c .before .before .before .before .before .before .before .before .before .before .before .before .before .before .before .before .before .before .before .before .args .p .settings .diagonal) (c .before .before .before .before .before .before .before .travel .given .0 .0 .number % 8)) (c .before .before .before .before .before .byte .ensures))
-    (c .before .before .before .price-of .ensures)
+    let s = c .before .before .before .before .before .before .before .before .before .before .before .before .before .before .before .before .before .before .before .before in
+    let l = c .before .loop in
+    finished (tables (s .args .blocked .now) (s .args .neighbours .now) (s .args .forced .now) (s .args .goals .now)) (s .args .p) (s .args .from) (s .args .depth) (s .args .above) (s .args .node) (c .before .before .before .before .pruned-mask .result) (c .before .before .before .price-of .result) (s .args .base) (c .before .before .before .before .before .before .before .travel .given .0 .0) (expand-faced t (c .before)) (s .args .number .now) (s .args .place .now) (s .args .parent .now) (s .args .cost .now) (s .args .keys .now) (s .args .idx .now) (s .args .m) (l .number) (l .place) (l .parent) (l .cost) (l .keys) (l .idx) (l .n) (l .e) (l .inv .0) (c .loop-test .left)
 
 follow-jump-along-requires : (t : ℕ) → follow-lts.Need-jump-along-requires (follow-claims t) (follow-at t) follow.Post
 follow-jump-along-requires t c κs =
@@ -198,10 +196,10 @@ follow-jump-along-requires t c κs =
     (record { sized = q .0 .floors .sized; sized-forced = q .0 .floors .sized-forced; aimed = q .0 .lent .aimed; marked = q .0 .floors .marked }, (q .1 .0, (q .0 .inside, q .1 .1 .1)))
 
 follow-enum-known-c : (t : ℕ) → follow-lts.Need-enum-known-c (follow-claims t) (follow-at t) follow.Post
-follow-enum-known-c t c = search needs
+follow-enum-known-c t c = c .match .keys1
 
 follow-enum-told : (t : ℕ) → follow-lts.Need-enum-told (follow-claims t) (follow-at t) follow.Post
-follow-enum-told t c = search needs
+follow-enum-told t c = c .match .keys2
 
 follow-returns : (t : ℕ) → follow-lts.Need-returns (follow-claims t) (follow-at t) follow.Post
 follow-returns t c = reached-none _ _ _ _ _ _ _ _ (sym (c .enum-told .given .1) ∙ c .before .before .jump-along .ensures)
@@ -219,7 +217,10 @@ follow-again-requires : (t : ℕ) → follow-lts.Need-again-requires (follow-cla
 follow-again-requires t c κs = let q = c .before .before .before .before .before .before .before .before .before .before .before .before .before .pre .1 in (q .0 .floors .sized-forced, (q .0 .lent .aimed, (q .0 .floors .marked, fine t (c .before) .inside)))
 
 follow-returns-2 : (t : ℕ) → follow-lts.Need-returns-2 (follow-claims t) (follow-at t) follow.Post
-follow-returns-2 t c = deeper-none _ _ _ _ _ _ _ _ (c .if2 .taken) ∙ reached-deep _ _ _ _ _ _ _ _ _ _ (jumped t (c .before .before .before .before)) (sym (c .before .before .again .ensures) ∙ c .before .if1 .taken)
+follow-returns-2 t c =
+    let s = c .before .before .before .before .before .before .before .before .before .before .before .before .before .before .before .before in
+    let j = c .before .before .before .before .c in
+    found-none (tables (s .args .blocked .now) (s .args .neighbours .now) (s .args .forced .now) (s .args .goals .now)) (s .args .p) (s .args .from) (s .args .depth) (s .args .above) (s .args .base) (s .args .e) (view (s .args .number .now) (s .args .place .now) (s .args .parent .now) (s .args .cost .now) (s .args .keys .now) (s .args .idx .now) (s .args .m)) (jumpOf (s .args .blocked .now) (s .args .forced .now) (s .args .goals .now) (s .args .p) (s .args .e) (s .args .node) (s .args .price)) (j .given .0 .0) (j .given .0 .1 .0) (jumped t (c .before .before .before .before)) (c .before .before .again .result) (c .before .before .again .ensures) (c .if2 .taken) (c .before .if1 .taken)
 
 follow-add-expand : (t : ℕ) → follow-lts.Need-add-expand (follow-claims t) (follow-at t) follow.Post
 follow-add-expand t c = let f = fine t (c .before .before .before .before .before .before .before .before .before .before) in omega (arith, f .most, c .before .before .before .before .before .before .before .before .before .before .before .before .before .before .before .before .before .before .before .before .before .before .pre .1 .0 .cheap)
@@ -255,9 +256,10 @@ follow-same-length-6 t c = c .before .before .before .before .before .before .be
 
 follow-returns-3 : (t : ℕ) → follow-lts.Need-returns-3 (follow-claims t) (follow-at t) follow.Post
 follow-returns-3 t c =
-    c .before .before .before .before .before .before .before .before .before .before .before .before .expand .ensures
-    ∙ deeper-more _ _ _ _ _ _ _ _ (c .before .before .before .before .before .before .before .before .before .before .before .before .before .before .before .before .before .before .before .if2 .left)
-    ∙ reached-deep _ _ _ _ _ _ _ _ _ _ (jumped t (c .before .before .before .before .before .before .before .before .before .before .before .before .before .before .before .before .before .before .before .before .before .before .before)) (sym (c .before .before .before .before .before .before .before .before .before .before .before .before .before .before .before .before .before .before .before .before .before .again .ensures) ∙ c .before .before .before .before .before .before .before .before .before .before .before .before .before .before .before .before .before .before .before .before .if1 .taken)
+    let s = c .before .before .before .before .before .before .before .before .before .before .before .before .before .before .before .before .before .before .before .before .before .before .before .before .before .before .before .before .before .before .before .before .before .before .before in
+    let j = c .before .before .before .before .before .before .before .before .before .before .before .before .before .before .before .before .before .before .before .before .before .before .before .c in
+    let f = c .before .before .before .before .before .before .before .before .before .before .before .before .expand in
+    found-more (tables (s .args .blocked .now) (s .args .neighbours .now) (s .args .forced .now) (s .args .goals .now)) (s .args .p) (s .args .from) (s .args .depth) (s .args .above) (s .args .base) (s .args .e) (view (s .args .number .now) (s .args .place .now) (s .args .parent .now) (s .args .cost .now) (s .args .keys .now) (s .args .idx .now) (s .args .m)) (jumpOf (s .args .blocked .now) (s .args .forced .now) (s .args .goals .now) (s .args .p) (s .args .e) (s .args .node) (s .args .price)) (j .given .0 .0) (j .given .0 .1 .0) (jumped t (c .before .before .before .before .before .before .before .before .before .before .before .before .before .before .before .before .before .before .before .before .before .before .before)) (c .before .before .before .before .before .before .before .before .before .before .before .before .before .before .before .before .before .before .before .before .before .again .result) (c .before .before .before .before .before .before .before .before .before .before .before .before .before .before .before .before .before .before .before .before .before .again .ensures) (outOf (f .result) (f .last .1 .1 .1 .1 .0) (f .last .1 .1 .1 .1 .1 .0) (f .last .1 .1 .1 .1 .1 .1 .0) (f .last .1 .1 .1 .1 .1 .1 .1 .0) (f .last .1 .1 .1 .1 .1 .1 .1 .1 .0) (f .last .1 .1 .1 .1 .1 .1 .1 .1 .1 .0)) (c .before .before .before .before .before .before .before .before .before .before .before .before .before .before .before .before .before .before .before .if2 .left) (c .before .before .before .before .before .before .before .before .before .before .before .before .before .before .before .before .before .before .before .before .if1 .taken) (f .ensures)
 
 follow-add-give : (t : ℕ) → follow-lts.Need-add-give (follow-claims t) (follow-at t) follow.Post
 follow-add-give t c = let f = fine t (c .before .before .before .before .before .before .before .before .before) in omega (arith, f .most, c .before .before .before .before .before .before .before .before .before .before .before .before .before .before .before .before .before .before .before .before .before .pre .1 .0 .cheap)
@@ -285,8 +287,10 @@ follow-same-length-12 t c = c .before .before .before .before .before .before .b
 
 follow-returns-4 : (t : ℕ) → follow-lts.Need-returns-4 (follow-claims t) (follow-at t) follow.Post
 follow-returns-4 t c =
-    c .before .before .before .before .before .before .before .before .before .before .before .before .give .ensures
-    ∙ reached-give _ _ _ _ _ _ _ _ _ _ (jumped t (c .before .before .before .before .before .before .before .before .before .before .before .before .before .before .before .before .before .before .before .before .before .before)) (sym (c .before .before .before .before .before .before .before .before .before .before .before .before .before .before .before .before .before .before .before .before .again .ensures) ∙ c .before .before .before .before .before .before .before .before .before .before .before .before .before .before .before .before .before .before .before .if1 .left)
+    let s = c .before .before .before .before .before .before .before .before .before .before .before .before .before .before .before .before .before .before .before .before .before .before .before .before .before .before .before .before .before .before .before .before .before .before in
+    let j = c .before .before .before .before .before .before .before .before .before .before .before .before .before .before .before .before .before .before .before .before .before .before .c in
+    let f = c .before .before .before .before .before .before .before .before .before .before .before .before .give in
+    found-give (tables (s .args .blocked .now) (s .args .neighbours .now) (s .args .forced .now) (s .args .goals .now)) (s .args .p) (s .args .from) (s .args .depth) (s .args .above) (s .args .base) (s .args .e) (view (s .args .number .now) (s .args .place .now) (s .args .parent .now) (s .args .cost .now) (s .args .keys .now) (s .args .idx .now) (s .args .m)) (jumpOf (s .args .blocked .now) (s .args .forced .now) (s .args .goals .now) (s .args .p) (s .args .e) (s .args .node) (s .args .price)) (j .given .0 .0) (j .given .0 .1 .0) (jumped t (c .before .before .before .before .before .before .before .before .before .before .before .before .before .before .before .before .before .before .before .before .before .before)) (c .before .before .before .before .before .before .before .before .before .before .before .before .before .before .before .before .before .before .before .before .again .result) (c .before .before .before .before .before .before .before .before .before .before .before .before .before .before .before .before .before .before .before .before .again .ensures) (outOf (f .result) (f .last .0) (f .last .1 .0) (f .last .1 .1 .0) (f .last .1 .1 .1 .0) (f .last .1 .1 .1 .1 .0) (f .last .1 .1 .1 .1 .1 .0)) (c .before .before .before .before .before .before .before .before .before .before .before .before .before .before .before .before .before .before .before .if1 .left) (f .ensures)
 
 pub +expand+follow-spec : {M : Type 1} → statement M
 +expand+follow-spec = close μ-expand μ-follow (λ t. expand-lts.spec (expand-claims t) (expand-at t) expand.Post

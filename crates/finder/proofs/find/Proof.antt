@@ -1,9 +1,9 @@
 -- `finder::find`: a found goal leaves nodes whose parents lead back to the start. Assumes nothing.
 use mathlib.Core.Path.{_≡_, sym, _∙_}
-use Prim.Native.Nat.{_*_}
+use Prim.Native.Nat.{_+_, _*_}
 use borrow.Author.Needs.{needs}
 use lib.Seq.{length-take-le}
-use Rattle.finder.proofs.Ends.{floors, rooms, start-in, started, found-place, found-parent, found-cost, found-route, reply-found, reply-refused, find-refused, find-found}
+use Rattle.finder.proofs.Ends.{put-back, floors, rooms, start-in, started, found-place, found-parent, found-cost, found-route, reply-found, reply-refused, find-refused, find-found}
 use Rattle.finder.specs.Find.{tablesOf}
 use Rattle.search.specs.Loop.{searchFor}
 use Rattle.offers.specs.Search.{view, found}
@@ -38,10 +38,10 @@ search-requires : tie.Need-search-requires
 search-requires c κs = let a = c .before .before .before .before .before .before .before .before .before .before .before .before .before .before .before .before .before .before .before in (rooms (a .pre .0) _ _ _ _ _ _ (a .pre .1 .1), (a .pre .0, (floors (a .pre .0) _ _ _ (a .pre .1 .0), start-in (a .pre .0) _ (c .before .before .before .before .before .before .before .before .before .cell-of .ensures))))
 
 enum-known-r : tie.Need-enum-known-r
-enum-known-r c = search needs
+enum-known-r c = c .match .keys1
 
 enum-known-r-2 : tie.Need-enum-known-r-2
-enum-known-r-2 c = search needs
+enum-known-r-2 c = c .match .keys2
 
 -- what the search found
 hit : (x : tie.After-r2) → found (x .r2 .given .0 .0) (x .r2 .given .0 .1 .0) (x .r2 .given .0 .1 .1 .0) (view (x .before .before .before .before .before .before .before .before .before .before .before .before .before .before .search .last .1 .1 .1 .1 .0) (x .before .before .before .before .before .before .before .before .before .before .before .before .before .before .search .last .1 .1 .1 .1 .1 .0) (x .before .before .before .before .before .before .before .before .before .before .before .before .before .before .search .last .1 .1 .1 .1 .1 .1 .0) (x .before .before .before .before .before .before .before .before .before .before .before .before .before .before .search .last .1 .1 .1 .1 .1 .1 .1 .0) (x .before .before .before .before .before .before .before .before .before .before .before .before .before .before .search .last .1 .1 .1 .1 .1 .1 .1 .1 .0) (x .before .before .before .before .before .before .before .before .before .before .before .before .before .before .search .last .1 .1 .1 .1 .1 .1 .1 .1 .1 .0) (x .r2 .given .0 .1 .1 .1 .0)) ≡ searchFor (tablesOf (x .before .before .before .before .before .before .before .before .before .before .before .before .before .before .before .before .before .before .before .before .before .before .before .before .before .before .before .before .before .before .before .before .before .before .args .p .w * x .before .before .before .before .before .before .before .before .before .before .before .before .before .before .before .before .before .before .before .before .before .before .before .before .before .before .before .before .before .before .before .before .before .before .args .p .h) (x .before .before .before .before .before .before .before .before .before .before .before .before .before .before .before .before .before .before .before .before .before .before .before .before .before .before .before .before .before .before .before .before .before .before .args .blocked .now) (x .before .before .before .before .before .before .before .before .before .before .before .before .before .before .before .before .before .before .before .before .before .before .before .before .before .before .before .before .before .before .before .before .before .before .args .neighbours .now) (x .before .before .before .before .before .before .before .before .before .before .before .before .before .before .before .before .before .before .before .before .before .before .before .before .before .before .before .before .before .before .before .before .before .before .args .forced .now) (x .before .before .before .before .before .before .before .before .before .before .before .before .before .before .before .before .before .before .before .before .before .before .before .before .before .before .before .before .before .before .before .before .before .before .args .goals .now)) (x .before .before .before .before .before .before .before .before .before .before .before .before .before .before .before .before .before .before .before .before .before .before .before .before .before .before .before .before .before .before .before .before .before .before .args .p) (x .before .before .before .before .before .before .before .before .before .before .before .before .before .before .before .before .before .before .before .before .before .before .before .before .cell-of .result)
@@ -69,13 +69,13 @@ write-route-requires : tie.Need-write-route-requires
 write-route-requires c κs = let a = c .before .before .before .before .before .before .before .before .before .before .before .before .before .before .before .before .before .before .before .before .before .before .before .before .before .before .before .before .before .before .before .before .before .before .before .before .before .before .before in let x = c .before .before .before .before .before in found-route (tablesOf (a .args .p .w * a .args .p .h) (a .args .blocked .now) (a .args .neighbours .now) (a .args .forced .now) (a .args .goals .now)) (a .args .p) _ (a .pre .0) (start-in (a .pre .0) _ (c .before .before .before .before .before .before .before .before .before .before .before .before .before .before .before .before .before .before .before .before .before .before .before .before .before .before .before .before .before .cell-of .ensures)) (c .before .before .before .before .before .before .before .before .before .before .before .before .before .before .before .before .before .before .before .search .last .1 .1 .1 .1 .0) (c .before .before .before .before .before .before .before .before .before .before .before .before .before .before .before .before .before .before .before .search .last .1 .1 .1 .1 .1 .0) (c .before .before .before .before .before .before .before .before .before .before .before .before .before .before .before .before .before .before .before .search .last .1 .1 .1 .1 .1 .1 .0) (c .before .before .before .before .before .before .before .before .before .before .before .before .before .before .before .before .before .before .before .search .last .1 .1 .1 .1 .1 .1 .1 .0) (c .before .before .before .before .before .before .before .before .before .before .before .before .before .before .before .before .before .before .before .search .last .1 .1 .1 .1 .1 .1 .1 .1 .0) (c .before .before .before .before .before .before .before .before .before .before .before .before .before .before .before .before .before .before .before .search .last .1 .1 .1 .1 .1 .1 .1 .1 .1 .0) (x .r2 .given .0 .0) (x .r2 .given .0 .1 .0) (x .r2 .given .0 .1 .1 .0) (x .r2 .given .0 .1 .1 .1 .0) (hit x)
 
 enum-known-t : tie.Need-enum-known-t
-enum-known-t c = search needs
+enum-known-t c = c .match2 .keys1
 
 enum-told : tie.Need-enum-told
-enum-told c = search needs
+enum-told c = c .match2 .keys2
 
 same-length : tie.Need-same-length
-same-length c = search needs
+same-length c = let a = c .before .before .before .before .before .before .before .before .before .before .before .before .before .before .before .before .before .before .before .before .before .before .before .before .before .before .before .before .before .before .before .before .before .before .before in put-back (a .args .p .w * a .args .p .h + 1) (a .args .number .now) (c .before .before .before .before .before .before .before .before .before .before .before .before .before .before .before .search .last .1 .1 .1 .1 .0) (a .pre .1 .1 .number) (c .before .before .before .before .before .before .before .before .before .before .before .before .before .before .before .search .kept .1 .1 .1 .1 .0)
 
 same-length-2 : tie.Need-same-length-2
 same-length-2 c = c .before .before .before .before .before .before .before .before .before .before .before .before .before .before .before .search .kept .1 .1 .1 .1 .1 .0
@@ -96,7 +96,7 @@ returns : tie.Need-returns
 returns c = let a = c .before .before .before .before .before .before .before .before .before .before .before .before .before .before .before .before .before .before .before .before .before .before .before .before .before .before .before .before .before .before .before .before .before .before .before in find-refused _ _ _ (a .args .p) _ _ (reply-refused _ _ _ (c .before .before .before .before .before .before .before .before .before .before .before .before .before .before .before .search .last .1 .1 .1 .1 .0) (c .before .before .before .before .before .before .before .before .before .before .before .before .before .before .before .search .last .1 .1 .1 .1 .1 .0) (c .before .before .before .before .before .before .before .before .before .before .before .before .before .before .before .search .last .1 .1 .1 .1 .1 .1 .0) (c .before .before .before .before .before .before .before .before .before .before .before .before .before .before .before .search .last .1 .1 .1 .1 .1 .1 .1 .0) (c .before .before .before .before .before .before .before .before .before .before .before .before .before .before .before .search .last .1 .1 .1 .1 .1 .1 .1 .1 .0) (c .before .before .before .before .before .before .before .before .before .before .before .before .before .before .before .search .last .1 .1 .1 .1 .1 .1 .1 .1 .1 .0) _ (c .before .before .before .before .before .before .before .before .before .before .before .before .before .before .before .search .ensures) (c .before .r .given .1) ∙ started _ _ _ _ (a .args .p) _ (c .before .before .before .before .before .before .before .before .before .before .before .before .before .before .before .before .before .before .before .before .before .before .before .before .before .cell-of .ensures))
 
 same-length-7 : tie.Need-same-length-7
-same-length-7 c = search needs
+same-length-7 c = let a = c .before .before .before .before .before .before .before .before .before .before .before .before .before .before .before .before .before .before .before .before .before .before .before .before .before .before .before .before .before .before .before .before .before .before .before .before .before .before .before .before .before .before .before .before in put-back (a .args .p .w * a .args .p .h + 1) (a .args .number .now) (c .before .before .before .before .before .before .before .before .before .before .before .before .before .before .before .before .before .before .before .before .before .before .before .before .search .last .1 .1 .1 .1 .0) (a .pre .1 .1 .number) (c .before .before .before .before .before .before .before .before .before .before .before .before .before .before .before .before .before .before .before .before .before .before .before .before .search .kept .1 .1 .1 .1 .0)
 
 same-length-8 : tie.Need-same-length-8
 same-length-8 c = c .before .before .before .before .before .before .before .before .before .before .before .before .before .before .before .before .before .before .before .before .before .before .before .before .search .kept .1 .1 .1 .1 .1 .0
@@ -120,7 +120,7 @@ returns-2 : tie.Need-returns-2
 returns-2 c = let a = c .before .before .before .before .before .before .before .before .before .before .before .before .before .before .before .before .before .before .before .before .before .before .before .before .before .before .before .before .before .before .before .before .before .before .before .before .before .before .before .before .before .before .before .before in let x = c .before .before .before .before .before .before .before .before .before .before in find-found (x .r2 .given .0 .0) (x .r2 .given .0 .1 .0) (x .r2 .given .0 .1 .1 .0) _ (a .args .p) (view (c .before .before .before .before .before .before .before .before .before .before .before .before .before .before .before .before .before .before .before .before .before .before .before .before .search .last .1 .1 .1 .1 .0) (c .before .before .before .before .before .before .before .before .before .before .before .before .before .before .before .before .before .before .before .before .before .before .before .before .search .last .1 .1 .1 .1 .1 .0) (c .before .before .before .before .before .before .before .before .before .before .before .before .before .before .before .before .before .before .before .before .before .before .before .before .search .last .1 .1 .1 .1 .1 .1 .0) (c .before .before .before .before .before .before .before .before .before .before .before .before .before .before .before .before .before .before .before .before .before .before .before .before .search .last .1 .1 .1 .1 .1 .1 .1 .0) (c .before .before .before .before .before .before .before .before .before .before .before .before .before .before .before .before .before .before .before .before .before .before .before .before .search .last .1 .1 .1 .1 .1 .1 .1 .1 .0) (c .before .before .before .before .before .before .before .before .before .before .before .before .before .before .before .before .before .before .before .before .before .before .before .before .search .last .1 .1 .1 .1 .1 .1 .1 .1 .1 .0) (x .r2 .given .0 .1 .1 .1 .0)) _ _ _ _ _ (hit x ∙ started _ _ _ _ (a .args .p) _ (c .before .before .before .before .before .before .before .before .before .before .before .before .before .before .before .before .before .before .before .before .before .before .before .before .before .before .before .before .before .before .before .before .before .before .cell-of .ensures)) (c .before .before .before .before .write-route .ensures .0) (c .before .before .before .before .write-route .ensures .1) (rw (c .before .t .given .1))
 
 same-length-14 : tie.Need-same-length-14
-same-length-14 c = search needs
+same-length-14 c = let a = c .before .before .before .before .before .before .before .before .before .before .before .before .before .before .before .before .before .before .before .before .before .before .before .before .before .before .before .before .before .before .before .before .before .before .before .before .before .before .before .before .before .before .before in put-back (a .args .p .w * a .args .p .h + 1) (a .args .number .now) (c .before .before .before .before .before .before .before .before .before .before .before .before .before .before .before .before .before .before .before .before .before .before .before .search .last .1 .1 .1 .1 .0) (a .pre .1 .1 .number) (c .before .before .before .before .before .before .before .before .before .before .before .before .before .before .before .before .before .before .before .before .before .before .before .search .kept .1 .1 .1 .1 .0)
 
 same-length-15 : tie.Need-same-length-15
 same-length-15 c = c .before .before .before .before .before .before .before .before .before .before .before .before .before .before .before .before .before .before .before .before .before .before .before .search .kept .1 .1 .1 .1 .1 .0

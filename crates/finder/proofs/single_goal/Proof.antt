@@ -1,14 +1,10 @@
 -- `finder::single_goal`: each refusal by the first test that fails; past all of them the plan is legal. Assumes nothing.
-use mathlib.Core.List.{List}
-use mathlib.Core.Path.{sym, ap, _∙_, subst}
+use mathlib.Core.Path.{sym, _∙_}
 use borrow.Author.Tests.{not-true, not-false}
 use borrow.Author.Needs.{needs}
-use lib.IntN.{ℤ}
-use Rattle.finder.proofs.Laws.{readPair, pair-read, stopped, handed, roomy, asked, single-legal, single-setting, single-start, single-goal, single-barred, single-open}
-use Rattle.finder.specs.Find.{ground, lengthsOf, pairOf, startedIn, singlePlan}
-use Rattle.plans.specs.Plans.{planOf}
-use Rattle.search.specs.Loop.{Legal}
-use Rattle.goals.specs.declared.Goal.{Goal}
+use lib.ListN.{length}
+use Rattle.finder.proofs.Laws.{stopped, single-setting, single-start, single-goal, single-barred, single-asked, single-answer}
+use Rattle.finder.specs.Find.{ground, lengthsOf, singlePlan}
 use Rattle.finder.proofs.single_goal.Statement.{statement}
 use Rattle.finder.proofs.single_goal.Tie as tie
 
@@ -64,31 +60,35 @@ slice-aggregate-find : tie.Need-slice-aggregate-find
 slice-aggregate-find c = search needs
 
 find-requires : tie.Need-find-requires
-find-requires c κs = let a = c .before .before .before .before .before .before .before .before .before .before .before .before .before .before .before .before .before .before .before .before .before .before .before .before .before .before .before .before .before .before in asked _ _ _ _ _ _ _ _ _ _ _ _ (c .before .before .before .before .before .before .before .before .before .plan .ensures) (subst (λ (l : List ℤ). Legal l (planOf (a .args .w) (a .args .h) (a .args .s) (c .before .before .before .before .before .before .before .before .before .before .kind-of .result) (a .args .start))) (sym (pair-read (a .args .goal) (sym (c .before .before .before .before .before .before .before .before .before .before .before .before .before .before .legal2 .ensures) ∙ not-false _ (c .before .before .before .before .before .before .before .before .before .before .before .before .before .if3 .left)))) (subst (λ (k : Goal). Legal (pairOf (a .args .goal)) (planOf (a .args .w) (a .args .h) (a .args .s) k (a .args .start))) (sym (c .before .before .before .before .before .before .before .before .before .before .kind-of .ensures)) (single-legal (a .args .w) (a .args .h) (a .args .s) (lengthsOf (a .args .number .now) (a .args .place .now) (a .args .parent .now) (a .args .cost .now) (a .args .keys .now) (a .args .idx .now)) (a .args .start) (a .pre .0) (sym (c .before .before .before .before .before .before .before .before .before .before .before .before .before .before .before .before .before .before .ready .ensures) ∙ not-false _ (c .before .before .before .before .before .before .before .before .before .before .before .before .before .before .before .before .before .if1 .left)) (sym (c .before .before .before .before .before .before .before .before .before .before .before .before .before .before .before .before .legal .ensures) ∙ not-false _ (c .before .before .before .before .before .before .before .before .before .before .before .before .before .before .before .if2 .left)) (a .args .approximate) (a .args .goal) (sym (c .before .before .before .before .before .before .before .before .before .before .before .before .before .before .legal2 .ensures) ∙ not-false _ (c .before .before .before .before .before .before .before .before .before .before .before .before .before .if3 .left))))) (a .pre .1 .0) (roomy (a .args .s) _ _ _ _ _ _ _ (sym (c .before .before .before .before .before .before .before .before .before .before .before .before .before .before .before .before .before .before .ready .ensures) ∙ not-false _ (c .before .before .before .before .before .before .before .before .before .before .before .before .before .before .before .before .before .if1 .left)))
+find-requires c κs =
+    let a = c .before .before .before .before .before .before .before .before .before .before .before .before .before .before .before .before .before .before .before .before .before .before .before .before .before .before .before .before .before .before in
+    single-asked (a .args .w) (a .args .h) (a .args .blocked .now) (a .args .neighbours .now) (a .args .forced .now) (a .args .links .now) (a .args .s) (a .args .number .now) (a .args .place .now) (a .args .parent .now) (a .args .cost .now) (a .args .keys .now) (a .args .idx .now) (a .args .approximate) (a .args .start) (a .args .goal) (sym (c .before .before .before .before .before .before .before .before .before .before .before .before .before .before .before .before .before .before .ready .ensures) ∙ not-false (c .before .before .before .before .before .before .before .before .before .before .before .before .before .before .before .before .before .before .ready .result) (c .before .before .before .before .before .before .before .before .before .before .before .before .before .before .before .before .before .if1 .left)) (sym (c .before .before .before .before .before .before .before .before .before .before .before .before .before .before .before .before .legal .ensures) ∙ not-false (c .before .before .before .before .before .before .before .before .before .before .before .before .before .before .before .before .legal .result) (c .before .before .before .before .before .before .before .before .before .before .before .before .before .before .before .if2 .left)) (sym (c .before .before .before .before .before .before .before .before .before .before .before .before .before .before .legal2 .ensures) ∙ not-false (c .before .before .before .before .before .before .before .before .before .before .before .before .before .before .legal2 .result) (c .before .before .before .before .before .before .before .before .before .before .before .before .before .if3 .left)) (c .before .before .before .before .before .before .before .before .before .before .kind-of .result) (c .before .before .before .before .before .before .before .before .before .plan .result) (c .before .before .before .before .before .before .before .before .before .before .kind-of .ensures) (c .before .before .before .before .before .before .before .before .before .plan .ensures) (a .pre .0) (a .pre .1 .0)
 
 same-length : tie.Need-same-length
-same-length c = search needs
+same-length c = c .before .before .before .before .before .before .before .before .before .before .before .before .before .find .kept .1 .1 .1 .1 .0
 
 same-length-2 : tie.Need-same-length-2
-same-length-2 c = search needs
+same-length-2 c = c .before .before .before .before .before .before .before .before .before .before .before .before .before .find .kept .1 .1 .1 .1 .1 .0
 
 same-length-3 : tie.Need-same-length-3
-same-length-3 c = search needs
+same-length-3 c = c .before .before .before .before .before .before .before .before .before .before .before .before .before .find .kept .1 .1 .1 .1 .1 .1 .0
 
 same-length-4 : tie.Need-same-length-4
-same-length-4 c = search needs
+same-length-4 c = c .before .before .before .before .before .before .before .before .before .before .before .before .before .find .kept .1 .1 .1 .1 .1 .1 .1 .0
 
 same-length-5 : tie.Need-same-length-5
-same-length-5 c = search needs
+same-length-5 c = c .before .before .before .before .before .before .before .before .before .before .before .before .before .find .kept .1 .1 .1 .1 .1 .1 .1 .1 .0
 
 same-length-6 : tie.Need-same-length-6
-same-length-6 c = search needs
+same-length-6 c = c .before .before .before .before .before .before .before .before .before .before .before .before .before .find .kept .1 .1 .1 .1 .1 .1 .1 .1 .1 .0
 
 same-length-7 : tie.Need-same-length-7
-same-length-7 c = search needs
+same-length-7 c = c .before .before .before .before .before .before .before .before .before .before .before .before .before .find .kept .1 .1 .1 .1 .1 .1 .1 .1 .1 .1 .0
 
 returns-5 : tie.Need-returns-5
-returns-5 c = let a = c .before .before .before .before .before .before .before .before .before .before .before .before .before .before .before .before .before .before .before .before .before .before .before .before .before .before .before .before .before .before .before .before .before .before .before .before .before .before .before .before .before .before .before .before in handed _ _ _ _ (startedIn (ground (a .args .w) (a .args .h) (a .args .blocked .now) (a .args .neighbours .now) (a .args .forced .now)) (readPair (a .args .goal))) _ (singlePlan (a .args .w) (a .args .h) (a .args .s) (a .args .approximate) (a .args .start) (a .args .goal)) _ (c .before .before .before .before .before .before .before .before .before .before .before .before .before .find .ensures) (c .before .before .before .before .before .before .before .before .before .before .before .before .before .before .before .before .before .before .before .before .before .before .before .plan .ensures ∙ ap (λ (k : Goal). planOf (a .args .w) (a .args .h) (a .args .s) k (a .args .start)) (c .before .before .before .before .before .before .before .before .before .before .before .before .before .before .before .before .before .before .before .before .before .before .before .before .kind-of .ensures)) (ap (λ (l : List ℤ). startedIn (ground (a .args .w) (a .args .h) (a .args .blocked .now) (a .args .neighbours .now) (a .args .forced .now)) l (singlePlan (a .args .w) (a .args .h) (a .args .s) (a .args .approximate) (a .args .start) (a .args .goal))) (pair-read (a .args .goal) (sym (c .before .before .before .before .before .before .before .before .before .before .before .before .before .before .before .before .before .before .before .before .before .before .before .before .before .before .before .before .legal2 .ensures) ∙ not-false _ (c .before .before .before .before .before .before .before .before .before .before .before .before .before .before .before .before .before .before .before .before .before .before .before .before .before .before .before .if3 .left))) ∙ single-open (ground (a .args .w) (a .args .h) (a .args .blocked .now) (a .args .neighbours .now) (a .args .forced .now)) (a .args .links .now) (a .args .s) (lengthsOf (a .args .number .now) (a .args .place .now) (a .args .parent .now) (a .args .cost .now) (a .args .keys .now) (a .args .idx .now)) (a .args .approximate) (a .args .start) (a .args .goal) (sym (c .before .before .before .before .before .before .before .before .before .before .before .before .before .before .before .before .before .before .before .before .before .before .before .before .before .before .before .before .before .before .before .before .ready .ensures) ∙ not-false _ (c .before .before .before .before .before .before .before .before .before .before .before .before .before .before .before .before .before .before .before .before .before .before .before .before .before .before .before .before .before .before .before .if1 .left)) (sym (c .before .before .before .before .before .before .before .before .before .before .before .before .before .before .before .before .before .before .before .before .before .before .before .before .before .before .before .before .before .before .legal .ensures) ∙ not-false _ (c .before .before .before .before .before .before .before .before .before .before .before .before .before .before .before .before .before .before .before .before .before .before .before .before .before .before .before .before .before .if2 .left)) (sym (c .before .before .before .before .before .before .before .before .before .before .before .before .before .before .before .before .before .before .before .before .before .before .before .before .before .before .before .before .legal2 .ensures) ∙ not-false _ (c .before .before .before .before .before .before .before .before .before .before .before .before .before .before .before .before .before .before .before .before .before .before .before .before .before .before .before .if3 .left)) (sym (c .before .before .before .before .before .before .before .before .before .before .before .before .before .before .before .before .before .before .before .before .before .before .before .before .before .before .barred .ensures) ∙ c .before .before .before .before .before .before .before .before .before .before .before .before .before .before .before .before .before .before .before .before .before .before .before .before .before .if4 .left))
+returns-5 c =
+    let a = c .before .before .before .before .before .before .before .before .before .before .before .before .before .before .before .before .before .before .before .before .before .before .before .before .before .before .before .before .before .before .before .before .before .before .before .before .before .before .before .before .before .before .before .before in
+    single-answer (a .args .w) (a .args .h) (a .args .blocked .now) (a .args .neighbours .now) (a .args .forced .now) (a .args .links .now) (a .args .s) (a .args .number .now) (a .args .place .now) (a .args .parent .now) (a .args .cost .now) (a .args .keys .now) (a .args .idx .now) (a .args .approximate) (a .args .start) (a .args .goal) (sym (c .before .before .before .before .before .before .before .before .before .before .before .before .before .before .before .before .before .before .before .before .before .before .before .before .before .before .before .before .before .before .before .before .ready .ensures) ∙ not-false (c .before .before .before .before .before .before .before .before .before .before .before .before .before .before .before .before .before .before .before .before .before .before .before .before .before .before .before .before .before .before .before .before .ready .result) (c .before .before .before .before .before .before .before .before .before .before .before .before .before .before .before .before .before .before .before .before .before .before .before .before .before .before .before .before .before .before .before .if1 .left)) (sym (c .before .before .before .before .before .before .before .before .before .before .before .before .before .before .before .before .before .before .before .before .before .before .before .before .before .before .before .before .before .before .legal .ensures) ∙ not-false (c .before .before .before .before .before .before .before .before .before .before .before .before .before .before .before .before .before .before .before .before .before .before .before .before .before .before .before .before .before .before .legal .result) (c .before .before .before .before .before .before .before .before .before .before .before .before .before .before .before .before .before .before .before .before .before .before .before .before .before .before .before .before .before .if2 .left)) (sym (c .before .before .before .before .before .before .before .before .before .before .before .before .before .before .before .before .before .before .before .before .before .before .before .before .before .before .before .before .legal2 .ensures) ∙ not-false (c .before .before .before .before .before .before .before .before .before .before .before .before .before .before .before .before .before .before .before .before .before .before .before .before .before .before .before .before .legal2 .result) (c .before .before .before .before .before .before .before .before .before .before .before .before .before .before .before .before .before .before .before .before .before .before .before .before .before .before .before .if3 .left)) (c .before .before .before .before .before .before .before .before .before .before .before .before .before .before .before .before .before .before .before .before .before .before .before .before .kind-of .result) (c .before .before .before .before .before .before .before .before .before .before .before .before .before .before .before .before .before .before .before .before .before .before .before .plan .result) (c .before .before .before .before .before .before .before .before .before .before .before .before .before .before .before .before .before .before .before .before .before .before .before .before .kind-of .ensures) (c .before .before .before .before .before .before .before .before .before .before .before .before .before .before .before .before .before .before .before .before .before .before .before .plan .ensures) (c .before .before .before .before .before .before .before .before .before .before .before .before .before .find .result) (length (a .args .out .now)) (a .args .out .now) (c .before .before .before .before .before .before .before .before .before .before .before .before .before .find .last .1 .1 .1 .1 .1 .1 .1 .1 .1 .1 .0) (sym (c .before .before .before .before .before .before .before .before .before .before .before .before .before .before .before .before .before .before .before .before .before .before .before .before .before .before .barred .ensures) ∙ c .before .before .before .before .before .before .before .before .before .before .before .before .before .before .before .before .before .before .before .before .before .before .before .before .before .if4 .left) (c .before .before .before .before .before .before .before .before .before .before .before .before .before .find .ensures)
 
 pub single-goal-spec : {M : Type 1} → statement M
 single-goal-spec =

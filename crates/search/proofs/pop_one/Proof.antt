@@ -10,7 +10,7 @@ use Rattle.expansion.specs.Start.{yieldOf}
 use Rattle.expansion.specs.Expand.{tables}
 use Rattle.offers.proofs.Rounds.{done-ok, refused-no}
 use Rattle.offers.proofs.Laws.{places-low}
-use Rattle.offers.specs.Search.{view}
+use Rattle.offers.specs.Search.{view, ok, no, visitOf}
 use Rattle.search.proofs.pop_one.Statement.{statement}
 use Rattle.search.proofs.pop_one.Tie as tie
 
@@ -51,10 +51,10 @@ visit-requires : tie.Need-visit-requires
 visit-requires c κs = let a = c .before .before .before .before .before .before .before .before .before .before .before .before .before .before .before .before .before .before .before .before .before .before .before .before .before .before .before in let e = c .before .before .before .before .before .before .before .before .before .before .before .before .before .before .before .pop in let k = pop-known (a .pre .0) (a .pre .1 .1 .1 .1) (a .pre .1 .1 .1 .0) (a .pre .1 .1 .0) _ (e .ensures .0) in (pop-lent (a .pre .0) (a .pre .1 .1 .1 .1) (a .pre .1 .1 .1 .0) (e .last .0) (e .last .1 .0) (e .ensures .1) (e .kept .0) (e .kept .1 .0), (a .pre .1 .0, (a .pre .1 .1 .0 .start, (k .0, (pop-backed (a .pre .0) (a .pre .1 .1 .1 .1) (a .pre .1 .1 .1 .0) _ (k .0), omega (arith, k .1, c .before .before .before .before .before .before .before .before .before .cost-of .ensures))))))
 
 enum-told : tie.Need-enum-told
-enum-told c = search needs
+enum-told c = c .match .keys1
 
 enum-known-fate : tie.Need-enum-known-fate
-enum-known-fate c = search needs
+enum-known-fate c = c .match .keys2
 
 same-length-3 : tie.Need-same-length-3
 same-length-3 c = c .before .before .before .before .before .before .before .before .before .before .before .before .before .before .before .visit .kept .1 .1 .1 .1 .0
@@ -75,7 +75,12 @@ same-length-8 : tie.Need-same-length-8
 same-length-8 c = c .before .before .before .before .before .before .before .before .before .before .before .before .before .before .before .visit .kept .1 .1 .1 .1 .1 .1 .1 .1 .1 .0 ∙ c .before .before .before .before .before .before .before .before .before .before .before .before .before .before .before .before .before .before .before .before .before .before .before .before .before .before .before .before .before .before .before .pop .kept .1 .0
 
 returns-2 : tie.Need-returns-2
-returns-2 c = let a = c .before .before .before .before .before .before .before .before .before .before .before .before .before .before .before .before .before .before .before .before .before .before .before .before .before .before .before .before .before .before .before .before .before .before .before .before .before .before .before .before .before .before .before in let e = c .before .before .before .before .before .before .before .before .before .before .before .before .before .before .before .before .before .before .before .before .before .before .before .before .before .before .before .before .before .before .before .pop in let k = pop-known (a .pre .0) (a .pre .1 .1 .1 .1) (a .pre .1 .1 .1 .0) (a .pre .1 .1 .0) _ (e .ensures .0) in pop-go (yieldOf (tables (a .args .blocked .now) (a .args .neighbours .now) (a .args .forced .now) (a .args .goals .now)) (a .args .p)) (goalOf (a .args .goals .now) (a .args .p)) _ _ (view (a .args .number .now) (a .args .place .now) (a .args .parent .now) (a .args .cost .now) (a .args .keys .now) (a .args .idx .now) (a .args .m)) (view (a .args .number .now) (a .args .place .now) (a .args .parent .now) (a .args .cost .now) (e .last .0) (e .last .1 .0) (record { count = a .args .m .count; heap = a .args .m .heap - 1 })) (e .ensures .0) (c .before .before .before .before .before .before .before .before .before .before .before .before .before .before .before .before .before .before .before .before .before .before .before .before .before .cost-of .ensures) (pop-is (a .pre .0) (a .pre .1 .1 .1 .1) (a .pre .1 .1 .1 .0) (e .last .0) (e .last .1 .0) (e .ensures .1)) _ (ap (goalOf (a .args .goals .now) (a .args .p)) (getD-take (a .args .m .count) (a .args .place .now) (e .result .index) 0 (k .0)) ∙ sym (c .before .before .before .before .before .before .before .before .before .before .before .before .before .before .before .before .before .before .before .before .before .before .before .at-goal .ensures) ∙ c .before .before .before .before .before .before .before .before .before .before .before .before .before .before .before .before .before .before .before .before .before .before .if1 .left) (done-ok _ _ _ _ _ _ _ _ (c .before .before .before .before .before .before .before .before .before .before .before .before .before .before .before .visit .ensures) (c .enum-told .given .1))
+returns-2 c =
+    let a = c .before .before .before .before .before .before .before .before .before .before .before .before .before .before .before .before .before .before .before .before .before .before .before .before .before .before .before .before .before .before .before .before .before .before .before .before .before .before .before .before .before .before .before in
+    let e = c .before .before .before .before .before .before .before .before .before .before .before .before .before .before .before .before .before .before .before .before .before .before .before .before .before .before .before .before .before .before .before .pop in
+    let k = pop-known (a .pre .0) (a .pre .1 .1 .1 .1) (a .pre .1 .1 .1 .0) (a .pre .1 .1 .0) (e .result) (e .ensures .0) in
+    let v = c .before .before .before .before .before .before .before .before .before .before .before .before .before .before .before .visit in
+    pop-go (yieldOf (tables (a .args .blocked .now) (a .args .neighbours .now) (a .args .forced .now) (a .args .goals .now)) (a .args .p)) (goalOf (a .args .goals .now) (a .args .p)) (e .result) (c .before .before .before .before .before .before .before .before .before .before .before .before .before .before .before .before .before .before .before .before .before .before .before .before .before .cost-of .result) (view (a .args .number .now) (a .args .place .now) (a .args .parent .now) (a .args .cost .now) (a .args .keys .now) (a .args .idx .now) (a .args .m)) (view (a .args .number .now) (a .args .place .now) (a .args .parent .now) (a .args .cost .now) (e .last .0) (e .last .1 .0) (record { count = a .args .m .count; heap = a .args .m .heap - 1 })) (e .ensures .0) (c .before .before .before .before .before .before .before .before .before .before .before .before .before .before .before .before .before .before .before .before .before .before .before .before .before .cost-of .ensures) (pop-is (a .pre .0) (a .pre .1 .1 .1 .1) (a .pre .1 .1 .1 .0) (e .last .0) (e .last .1 .0) (e .ensures .1)) (ok (view (v .last .1 .1 .1 .1 .0) (v .last .1 .1 .1 .1 .1 .0) (v .last .1 .1 .1 .1 .1 .1 .0) (v .last .1 .1 .1 .1 .1 .1 .1 .0) (v .last .1 .1 .1 .1 .1 .1 .1 .1 .0) (v .last .1 .1 .1 .1 .1 .1 .1 .1 .1 .0) (v .result .mark))) (ap (goalOf (a .args .goals .now) (a .args .p)) (getD-take (a .args .m .count) (a .args .place .now) (e .result .index) 0 (k .0)) ∙ sym (c .before .before .before .before .before .before .before .before .before .before .before .before .before .before .before .before .before .before .before .before .before .before .before .at-goal .ensures) ∙ c .before .before .before .before .before .before .before .before .before .before .before .before .before .before .before .before .before .before .before .before .before .before .if1 .left) (done-ok (v .result) (v .last .1 .1 .1 .1 .0) (v .last .1 .1 .1 .1 .1 .0) (v .last .1 .1 .1 .1 .1 .1 .0) (v .last .1 .1 .1 .1 .1 .1 .1 .0) (v .last .1 .1 .1 .1 .1 .1 .1 .1 .0) (v .last .1 .1 .1 .1 .1 .1 .1 .1 .1 .0) (visitOf (yieldOf (tables (a .args .blocked .now) (a .args .neighbours .now) (a .args .forced .now) (a .args .goals .now)) (a .args .p)) (e .result .index) (c .before .before .before .before .before .before .before .before .before .before .before .before .before .before .before .before .before .before .before .before .before .before .before .before .before .cost-of .result) (view (a .args .number .now) (a .args .place .now) (a .args .parent .now) (a .args .cost .now) (e .last .0) (e .last .1 .0) (record { count = a .args .m .count; heap = a .args .m .heap - 1 }))) (v .ensures) (c .enum-told .given .1))
 
 same-length-9 : tie.Need-same-length-9
 same-length-9 c = c .before .before .before .before .before .before .before .before .before .before .before .before .before .before .before .before .visit .kept .1 .1 .1 .1 .0
@@ -96,7 +101,12 @@ same-length-14 : tie.Need-same-length-14
 same-length-14 c = c .before .before .before .before .before .before .before .before .before .before .before .before .before .before .before .before .visit .kept .1 .1 .1 .1 .1 .1 .1 .1 .1 .0 ∙ c .before .before .before .before .before .before .before .before .before .before .before .before .before .before .before .before .before .before .before .before .before .before .before .before .before .before .before .before .before .before .before .before .pop .kept .1 .0
 
 returns-3 : tie.Need-returns-3
-returns-3 c = let a = c .before .before .before .before .before .before .before .before .before .before .before .before .before .before .before .before .before .before .before .before .before .before .before .before .before .before .before .before .before .before .before .before .before .before .before .before .before .before .before .before .before .before .before .before in let e = c .before .before .before .before .before .before .before .before .before .before .before .before .before .before .before .before .before .before .before .before .before .before .before .before .before .before .before .before .before .before .before .before .pop in let k = pop-known (a .pre .0) (a .pre .1 .1 .1 .1) (a .pre .1 .1 .1 .0) (a .pre .1 .1 .0) _ (e .ensures .0) in pop-go (yieldOf (tables (a .args .blocked .now) (a .args .neighbours .now) (a .args .forced .now) (a .args .goals .now)) (a .args .p)) (goalOf (a .args .goals .now) (a .args .p)) _ _ (view (a .args .number .now) (a .args .place .now) (a .args .parent .now) (a .args .cost .now) (a .args .keys .now) (a .args .idx .now) (a .args .m)) (view (a .args .number .now) (a .args .place .now) (a .args .parent .now) (a .args .cost .now) (e .last .0) (e .last .1 .0) (record { count = a .args .m .count; heap = a .args .m .heap - 1 })) (e .ensures .0) (c .before .before .before .before .before .before .before .before .before .before .before .before .before .before .before .before .before .before .before .before .before .before .before .before .before .before .cost-of .ensures) (pop-is (a .pre .0) (a .pre .1 .1 .1 .1) (a .pre .1 .1 .1 .0) (e .last .0) (e .last .1 .0) (e .ensures .1)) _ (ap (goalOf (a .args .goals .now) (a .args .p)) (getD-take (a .args .m .count) (a .args .place .now) (e .result .index) 0 (k .0)) ∙ sym (c .before .before .before .before .before .before .before .before .before .before .before .before .before .before .before .before .before .before .before .before .before .before .before .before .at-goal .ensures) ∙ c .before .before .before .before .before .before .before .before .before .before .before .before .before .before .before .before .before .before .before .before .before .before .before .if1 .left) (refused-no _ _ _ _ _ _ _ _ _ (c .before .before .before .before .before .before .before .before .before .before .before .before .before .before .before .before .visit .ensures) (c .before .fate .given .1))
+returns-3 c =
+    let a = c .before .before .before .before .before .before .before .before .before .before .before .before .before .before .before .before .before .before .before .before .before .before .before .before .before .before .before .before .before .before .before .before .before .before .before .before .before .before .before .before .before .before .before .before in
+    let e = c .before .before .before .before .before .before .before .before .before .before .before .before .before .before .before .before .before .before .before .before .before .before .before .before .before .before .before .before .before .before .before .before .pop in
+    let k = pop-known (a .pre .0) (a .pre .1 .1 .1 .1) (a .pre .1 .1 .1 .0) (a .pre .1 .1 .0) (e .result) (e .ensures .0) in
+    let v = c .before .before .before .before .before .before .before .before .before .before .before .before .before .before .before .before .visit in
+    pop-go (yieldOf (tables (a .args .blocked .now) (a .args .neighbours .now) (a .args .forced .now) (a .args .goals .now)) (a .args .p)) (goalOf (a .args .goals .now) (a .args .p)) (e .result) (c .before .before .before .before .before .before .before .before .before .before .before .before .before .before .before .before .before .before .before .before .before .before .before .before .before .before .cost-of .result) (view (a .args .number .now) (a .args .place .now) (a .args .parent .now) (a .args .cost .now) (a .args .keys .now) (a .args .idx .now) (a .args .m)) (view (a .args .number .now) (a .args .place .now) (a .args .parent .now) (a .args .cost .now) (e .last .0) (e .last .1 .0) (record { count = a .args .m .count; heap = a .args .m .heap - 1 })) (e .ensures .0) (c .before .before .before .before .before .before .before .before .before .before .before .before .before .before .before .before .before .before .before .before .before .before .before .before .before .before .cost-of .ensures) (pop-is (a .pre .0) (a .pre .1 .1 .1 .1) (a .pre .1 .1 .1 .0) (e .last .0) (e .last .1 .0) (e .ensures .1)) (no (c .before .fate .given .0 .0)) (ap (goalOf (a .args .goals .now) (a .args .p)) (getD-take (a .args .m .count) (a .args .place .now) (e .result .index) 0 (k .0)) ∙ sym (c .before .before .before .before .before .before .before .before .before .before .before .before .before .before .before .before .before .before .before .before .before .before .before .before .at-goal .ensures) ∙ c .before .before .before .before .before .before .before .before .before .before .before .before .before .before .before .before .before .before .before .before .before .before .before .if1 .left) (refused-no (v .result) (c .before .fate .given .0 .0) (v .last .1 .1 .1 .1 .0) (v .last .1 .1 .1 .1 .1 .0) (v .last .1 .1 .1 .1 .1 .1 .0) (v .last .1 .1 .1 .1 .1 .1 .1 .0) (v .last .1 .1 .1 .1 .1 .1 .1 .1 .0) (v .last .1 .1 .1 .1 .1 .1 .1 .1 .1 .0) (visitOf (yieldOf (tables (a .args .blocked .now) (a .args .neighbours .now) (a .args .forced .now) (a .args .goals .now)) (a .args .p)) (e .result .index) (c .before .before .before .before .before .before .before .before .before .before .before .before .before .before .before .before .before .before .before .before .before .before .before .before .before .before .cost-of .result) (view (a .args .number .now) (a .args .place .now) (a .args .parent .now) (a .args .cost .now) (e .last .0) (e .last .1 .0) (record { count = a .args .m .count; heap = a .args .m .heap - 1 }))) (v .ensures) (c .before .fate .given .1))
 
 pub pop-one-spec : {M : Type 1} → statement M
 pop-one-spec =
