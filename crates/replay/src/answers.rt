@@ -1,5 +1,7 @@
-// What is compared, whatever the kind of a block: refusals, points, bytes, and a lent output.
+// What is compared, whatever the kind of a block: refusals, points, lists of numbers, and a lent output.
+ghost use mathlib.Core.Path.{_≡_};
 ghost use Prim.Native.Nat.{_≤_};
+ghost use lib.ListN.{length, take};
 use points::Point;
 use points::Refusal;
 
@@ -21,7 +23,7 @@ pub fn one(place: usize, wrong: u64) -> Tally {
     }
 }
 
-pub fn least(a: usize, b: usize) -> usize
+fn least(a: usize, b: usize) -> usize
     ensures { λ r. ⌜ (r ≤ a) × (r ≤ b) ⌝ }
 {
     if a < b { a } else { b }
@@ -29,14 +31,11 @@ pub fn least(a: usize, b: usize) -> usize
 
 // 0 where a is b, else 1.
 pub fn unequal(a: u64, b: u64) -> u64 {
-    if a == b { 0 } else { 1 }
+    (a != b) as u64
 }
 
 pub fn equal(p: Point, q: Point) -> bool {
-    if p.x == q.x {
-        return p.y == q.y;
-    }
-    false
+    (p.x == q.x) & (p.y == q.y)
 }
 
 // A refusal's number; where POINT carries another point than p, 200.
@@ -53,9 +52,18 @@ pub fn number_of(r: Refusal, p: Point) -> u8 {
 
 // ---- what stands in a block
 
+// The bytes of s from a place on, none past its end.
+pub fn rest<'a>(s: &'a [u8], at: usize) -> &'a [u8] {
+    let n = s.len();
+    if at < n {
+        return &s[at..];
+    }
+    &s[n..]
+}
+
 // The byte at a place, against a value.
-pub fn byte_wrong(v: u64, s: &[u8], at: usize) -> u64 {
-    unequal(v, lists::u8_at(s, at) as u64)
+pub fn byte_wrong(v: u8, s: &[u8], at: usize) -> u64 {
+    (v != lists::u8_at(s, at)) as u64
 }
 
 // The number of two bytes at a place, but no more than this.
@@ -73,89 +81,64 @@ pub fn room_at(s: &[u8], at: usize, most: usize) -> usize
 }
 
 // The point of two numbers of two bytes each.
-pub fn point_at(s: &[u8], at: usize) -> Point {
-    if s.len() <= at {
-        return Point { x: 0, y: 0 };
-    }
+pub fn point_at(s: &[u8], at: usize) -> Point
+    requires { ⌜ at ≤ 100 ⌝ }
+{
     Point {
         x: lists::i16_at(s, at),
         y: lists::i16_at(s, at + 2),
     }
 }
 
-// A result and the point that POINT carries, against a refusal.
-pub fn refused_wrong(r: Refusal, s: &[u8], at: usize) -> u64
-    requires { ⌜ at ≤ 1000000 ⌝ }
+// The point of two bytes.
+pub fn small_point(s: &[u8], at: usize) -> Point
+    requires { ⌜ at ≤ 100 ⌝ }
 {
-    byte_wrong(number_of(r, point_at(s, at + 1)) as u64, s, at)
+    Point {
+        x: lists::u8_at(s, at) as i32,
+        y: lists::u8_at(s, at + 1) as i32,
+    }
 }
 
-// A cell's bit, of those from a place on.
-pub fn bit_at(s: &[u8], from: usize, k: usize) -> u8
-    requires { ⌜ (from ≤ 1000000) × (k ≤ 1000000) ⌝ }
+// A result and the point that POINT carries, which s begins with, against a refusal.
+pub fn refused_wrong(r: Refusal, s: &[u8]) -> u64 {
+    byte_wrong(number_of(r, point_at(s, 1)), s, 0)
+}
+
+// ---- lists of numbers, each a count of two bytes and then two bytes for a number
+
+// The first count numbers of a list.
+pub fn numbers(s: &[u8], count: usize) -> [i32; 200]
+    requires { ⌜ count ≤ 200 ⌝ }
+    ensures { λ r. ⌜ (count ≤ length r) × (count ≡ length (take count r)) ⌝ }
 {
-    lists::u8_at(s, from + k / 8) >> ((k % 8) as u32) & 1
-}
-
-// ---- lists of numbers
-
-// The kth number of two bytes each from a place on.
-fn number_at(s: &[u8], at: usize, k: usize) -> i32 {
-    if s.len() <= at {
-        return 0;
-    }
-    if s.len() - at <= k {
-        return 0;
-    }
-    lists::i16_at(s, at + 2 * k)
-}
-
-// The first count places of a list get the numbers of two bytes each that stand in s from a place on.
-pub fn fill(s: &[u8], at: usize, count: usize, list: &mut [i32]) {
-    let n = least(count, list.len());
+    let mut list = [0i32; 200];
     let mut k: usize = 0;
-    while k < n {
-        list[k] = number_at(s, at, k);
+    while k < count {
+        list[k] = lists::i16_at(s, 2 + 2 * k);
         k += 1;
     }
+    list
 }
 
-// What the output holds at k by the list: the first count of the numbers, then what was there.
-fn wanted(s: &[u8], at: usize, count: usize, k: usize) -> i32 {
+// What the output holds at k, against the first count numbers of a list and then what was there.
+fn unlike_at(v: i32, s: &[u8], count: usize, k: usize) -> u64
+    requires { ⌜ count ≤ 200000 ⌝ }
+{
     if k < count {
-        return number_at(s, at, k);
+        return (v != lists::i16_at(s, 2 + 2 * k)) as u64;
     }
-    UNTOUCHED
+    (v != UNTOUCHED) as u64
 }
 
-fn unlike_at(s: &[u8], at: usize, count: usize, v: i32, k: usize) -> u64 {
-    if v == wanted(s, at, count, k) { 0 } else { 1 }
-}
-
-// How many places of an output differ from the count numbers that stand in s from a place on, and UNTOUCHED after them.
-pub fn unlike(s: &[u8], at: usize, count: usize, out: &[i32]) -> u64 {
+// How many places of an output differ from the list of points that s begins with, and UNTOUCHED after them.
+pub fn unlike(s: &[u8], out: &[i32]) -> u64 {
+    let count = 2 * lists::u16_at(s, 0) as usize;
     let mut wrong: u64 = 0;
     let mut k: usize = 0;
     while k < out.len() {
-        wrong = std::num::wrapping_add_u64(wrong, unlike_at(s, at, count, out[k], k));
+        wrong = std::num::wrapping_add_u64(wrong, unlike_at(out[k], s, count, k));
         k += 1;
-    }
-    wrong
-}
-
-// ---- bytes
-
-fn byte_unlike(a: &[u8], b: &[u8], i: usize) -> u64 {
-    byte_wrong(lists::u8_at(a, i) as u64, b, i)
-}
-
-// How many of the first n bytes differ.
-pub fn bytes_unlike(a: &[u8], b: &[u8], n: usize) -> u64 {
-    let mut wrong: u64 = 0;
-    let mut i: usize = 0;
-    while i < n {
-        wrong = std::num::wrapping_add_u64(wrong, byte_unlike(a, b, i));
-        i += 1;
     }
     wrong
 }

@@ -14,17 +14,14 @@ fn none() -> Block
     Block { kind: 0, count: 0 }
 }
 
-// The length and the kind, with which a block begins.
+// The length and the kind, with which a block begins. A length of 0, as at the list's end, leaves a count that no buffer has.
 fn head(fd: i32) -> Block {
     let mut bytes = [0u8; 5];
     io::read_full(fd, &mut bytes);
-    let size = lists::u32_at(&bytes, 0) as usize;
-    if size == 0 {
-        return none();
-    }
+    let read = &bytes[..];
     Block {
-        kind: lists::u8_at(&bytes, 4),
-        count: size - 1,
+        kind: lists::u8_at(read, 4),
+        count: std::num::wrapping_sub_usize(lists::u32_at(read, 0) as usize, 1),
     }
 }
 
@@ -52,13 +49,13 @@ pub fn say(name: &[u8], value: u64) {
     io::write_all(1, b"\n");
 }
 
-fn say_count(counts: &[u64; 17], k: usize) {
+fn say_count(counts: [u64; 17], k: usize) {
     io::write_all(1, b" ");
     io::print_decimal(1, counts[k % 17]);
 }
 
 // Writes a line of names and the counts from one place to another.
-pub fn say_counts(names: &[u8], counts: &[u64; 17], from: usize, to: usize) {
+pub fn say_counts(names: &[u8], counts: [u64; 17], from: usize, to: usize) {
     io::write_all(1, names);
     let mut k = from;
     while k < to {

@@ -1,11 +1,9 @@
 // Document 01's "Run" paragraph: each example is run, and what it gives is printed beside its name.
 use super::blocks;
-use super::grids;
 use super::ground;
 use super::searches;
 use super::tables;
 use costs::Settings;
-use finder::Answer;
 use finder::Outcome;
 use grid::Grid;
 use points::Point;
@@ -22,25 +20,16 @@ fn say(name: &[u8], number: u64, pops: u64, waypoints: u64) {
     blocks::say(b"  waypoints=", waypoints);
 }
 
-fn say_answer(name: &[u8], a: Answer) {
+// A search from (0,0) to (x,0), of a kind that searches::search knows.
+fn search(name: &[u8], kind: u8, g: Grid, s: Settings, x: i32) {
+    let goals = [0i32; 2];
+    let mut out = [0i32; 8194];
+    let a = searches::search(kind, g, s, at(0), at(x), &goals, &mut out);
     let o = a.outcome;
     match o {
         Outcome::Found(n, _) => say(name, 0, a.pops as u64, n as u64),
         Outcome::Refused(r) => say(name, r.told().number as u64, a.pops as u64, 0),
     }
-}
-
-// A search from (0,0) to (x,0).
-fn search(name: &[u8], g: Grid, s: Settings, x: i32, approximate: bool) {
-    let mut out = [0i32; 8194];
-    say_answer(
-        name,
-        searches::single(g, s, at(0), at(x), approximate, &mut out),
-    );
-}
-
-fn exact(name: &[u8], g: Grid, x: i32) {
-    search(name, g, Settings::new(), x, false);
 }
 
 fn scaled() {
@@ -51,35 +40,32 @@ fn scaled() {
 }
 
 fn two_by_one() {
-    let g = grids::new(2, 1);
-    exact(b"new 2x1, (0,0) to (1,0)=", g, 1);
-    exact(b"rebuilt=", grids::rebuilt(g, true), 1);
-}
-
-fn start_is_goal() {
-    let g = grids::new(2, 1);
-    exact(b"new 2x1, start is goal=", g, 0);
-    search(b"approximate=", g, Settings::new(), 0, true);
-    exact(b"blocked=", grids::set(g, true, at(0), true), 0);
+    let s = Settings::new();
+    let new = grid::new(2, 1);
+    search(b"new 2x1, (0,0) to (1,0)=", 0, new.grid, s, 1);
+    let rebuilt = grid::generate_components(new.grid, true);
+    search(b"rebuilt=", 0, rebuilt.grid, s, 1);
+    search(b"new 2x1, start is goal=", 0, new.grid, s, 0);
+    search(b"approximate=", 1, new.grid, s, 0);
+    let cut = grid::set(new.grid, true, at(0), true);
+    search(b"blocked=", 0, cut.grid, s, 0);
 }
 
 // Three cells, the middle one blocked, rebuilt, and blocked once more.
 fn parted() -> Grid {
-    let cut = grids::set(grids::new(3, 1), true, at(1), true);
-    grids::set(grids::rebuilt(cut, true), true, at(1), true)
+    let new = grid::new(3, 1);
+    let cut = grid::set(new.grid, true, at(1), true);
+    let rebuilt = grid::generate_components(cut.grid, true);
+    let again = grid::set(rebuilt.grid, true, at(1), true);
+    again.grid
 }
 
 fn say_component(name: &[u8], g: Grid, p: Point) {
     blocks::say(name, tables::component_told(grid::get_component(g, p), p));
 }
 
-fn at_factor_16(g: Grid) {
-    let mut s = Settings::new();
-    s.factor = 16.0;
-    search(b"factor 16=", g, s, 0, false);
-}
-
 fn blocked_again() {
+    let mut s = Settings::new();
     let g = parted();
     say_component(
         b"rebuilt 3x1 .#., (1,0) blocked again: component of (0,0)=",
@@ -88,14 +74,15 @@ fn blocked_again() {
     );
     say_component(b"  component of (2,0)=", g, at(2));
     blocks::say(b"  dirty=", g.dirty as u64);
-    exact(b"  (0,0) to (2,0)=", g, 2);
-    at_factor_16(g);
+    search(b"  (0,0) to (2,0)=", 0, g, s, 2);
+    s.factor = 16.0;
+    search(b"factor 16=", 0, g, s, 0);
 }
 
 fn size(name: &[u8], width: usize) {
     let made = grid::new(width, 1);
     let o = made.outcome;
-    blocks::say(name, tables::outcome_told(o, at(0)));
+    blocks::say(name, tables::outcome_told(o, at(0)) as u64);
 }
 
 fn sizes() {
@@ -107,7 +94,6 @@ fn sizes() {
 pub fn run() {
     scaled();
     two_by_one();
-    start_is_goal();
     blocked_again();
     sizes();
 }

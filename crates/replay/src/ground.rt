@@ -31,32 +31,16 @@ fn width_of(kind: u8) -> usize
 // ---- a record of each kind
 
 fn forced_wrong(k: usize, r: &[u8]) -> u64 {
-    answers::byte_wrong(masks::forced_mask((k % 256) as u8) as u64, r, 0)
+    answers::byte_wrong(masks::forced_mask((k % 256) as u8), r, 0)
 }
 
 fn pruned_wrong(diagonal: bool, k: usize, r: &[u8]) -> u64 {
     let d = (k / 256 % 8) as u8;
-    answers::byte_wrong(
-        masks::pruned_mask(diagonal, d, (k % 256) as u8) as u64,
-        r,
-        0,
-    )
-}
-
-fn offsets_wrong(n: u8, r: &[u8]) -> u64 {
-    let x = directions::off_x(n) as u64;
-    let y = directions::off_y(n) as u64;
-    answers::byte_wrong(x, r, 0) | answers::byte_wrong(y, r, 1)
-}
-
-fn opposite_wrong(d: Direction, r: &[u8]) -> u64 {
-    let o = d.opposite().number as u64;
-    let diagonal = d.diagonal() as u64;
-    answers::byte_wrong(o, r, 2) | answers::byte_wrong(diagonal, r, 3)
+    answers::byte_wrong(masks::pruned_mask(diagonal, d, (k % 256) as u8), r, 0)
 }
 
 fn cardinals_wrong(x: u8, y: u8, r: &[u8]) -> u64 {
-    answers::byte_wrong(x as u64, r, 4) | answers::byte_wrong(y as u64, r, 5)
+    answers::byte_wrong(x, r, 4) | answers::byte_wrong(y, r, 5)
 }
 
 fn parts_wrong(d: Direction, r: &[u8]) -> u64 {
@@ -70,7 +54,12 @@ fn parts_wrong(d: Direction, r: &[u8]) -> u64 {
 // The offsets, the opposite, whether it is a diagonal, and the cardinals.
 fn compass_wrong(n: u8, r: &[u8]) -> u64 {
     let d = Direction { number: n };
-    offsets_wrong(n, r) | opposite_wrong(d, r) | parts_wrong(d, r)
+    let o = d.opposite();
+    answers::byte_wrong(directions::off_x(n) as u8, r, 0)
+        | answers::byte_wrong(directions::off_y(n) as u8, r, 1)
+        | answers::byte_wrong(o.number, r, 2)
+        | answers::byte_wrong(d.diagonal() as u8, r, 3)
+        | parts_wrong(d, r)
 }
 
 // A number is read modulo 8.
@@ -84,9 +73,9 @@ fn turns_wrong(k: usize, r: &[u8]) -> u64 {
         number: (k / 8 % 8) as u8,
     };
     let eighths = (k % 8) as u8;
-    let cw = d.rotate_cw(eighths).number as u64;
-    let ccw = d.rotate_ccw(eighths).number as u64;
-    answers::byte_wrong(cw, r, 0) | answers::byte_wrong(ccw, r, 1)
+    let cw = d.rotate_cw(eighths);
+    let ccw = d.rotate_ccw(eighths);
+    answers::byte_wrong(cw.number, r, 0) | answers::byte_wrong(ccw.number, r, 1)
 }
 
 fn far_point(r: &[u8], at: usize) -> Point
@@ -143,25 +132,20 @@ pub fn measured(m: Measure, a: Point, b: Point) -> u32 {
     }
 }
 
-fn word_wrong(v: u32, r: &[u8], at: usize) -> u64 {
-    answers::unequal(v as u64, lists::u32_at(r, at) as u64)
-}
-
 fn heading_wrong(r: &[u8]) -> u64 {
-    word_wrong(heading(far_point(r, 0), far_point(r, 8)), r, 16)
+    (heading(far_point(r, 0), far_point(r, 8)) != lists::u32_at(r, 16)) as u64
 }
 
-fn distance_wrong(diagonal: bool, r: &[u8], at: usize) -> u64 {
+// The distance between two points, or with a kind of 8 the scaled one, against the number at a place.
+fn distance_wrong(kind: u8, diagonal: bool, r: &[u8], at: usize) -> u64 {
     let a = far_point(r, 0);
     let b = far_point(r, 8);
-    word_wrong(measured(costs::distance(diagonal, a, b), a, b), r, at)
-}
-
-fn scaled_wrong(diagonal: bool, r: &[u8], at: usize) -> u64 {
-    let a = far_point(r, 0);
-    let b = far_point(r, 8);
-    let m = costs::scaled_distance(diagonal, lists::f32_at(r, 16), a, b);
-    word_wrong(measured(m, a, b), r, at)
+    let m = if kind == 8 {
+        costs::scaled_distance(diagonal, lists::f32_at(r, 16), a, b)
+    } else {
+        costs::distance(diagonal, a, b)
+    };
+    (measured(m, a, b) != lists::u32_at(r, at)) as u64
 }
 
 fn wrong(kind: u8, k: usize, r: &[u8]) -> u64 {
@@ -172,8 +156,8 @@ fn wrong(kind: u8, k: usize, r: &[u8]) -> u64 {
         4 => direction_wrong(k, r),
         5 => turns_wrong(k, r),
         6 => heading_wrong(r),
-        7 => distance_wrong(true, r, 16) | distance_wrong(false, r, 20),
-        _ => scaled_wrong(true, r, 20) | scaled_wrong(false, r, 24),
+        7 => distance_wrong(7, true, r, 16) | distance_wrong(7, false, r, 20),
+        _ => distance_wrong(8, true, r, 20) | distance_wrong(8, false, r, 24),
     }
 }
 

@@ -45,23 +45,33 @@ fn added(run: Run, y: Tally) -> Run {
 
 // A step of the tables: what it makes of the grid in hand, and its questions.
 fn stepped(run: Run, s: &[u8]) -> Run {
-    let before = run.grid;
     let diagonal = tables::turned(s, run.diagonal);
-    let change = tables::call(s, before, diagonal);
+    let change = tables::call(s, run.grid, diagonal);
     let g = change.grid;
-    let mut next = added(run, tables::compare(s, before, change));
+    let mut next = added(run, tables::compare(s, run.grid, change));
     next.grid = g;
     next.diagonal = diagonal;
-    let asked = added(next, tables::cells(g, diagonal, s));
-    added(asked, tables::questions(g, diagonal, s))
+    let cells = tables::after_changes(s);
+    let asked = added(next, tables::asked(g, diagonal, 10, 10, cells));
+    let reaches = tables::after_cells(cells);
+    added(asked, tables::asked(g, diagonal, 11, 9, reaches))
 }
 
-// A grid, or a search on the one in hand.
-fn searched(run: Run, s: &[u8]) -> Run {
-    let g = run.grid;
-    let mut next = added(run, searches::replay(s, g));
-    next.grid = searches::made(s, g);
+// A grid, which is then the one in hand.
+fn gridded(run: Run, g: Grid) -> Run {
+    let mut next = added(run, answers::one(12, 0));
+    next.grid = g;
     next
+}
+
+// A grid by calls or by its tables, or a search on the one in hand.
+fn searched(run: Run, s: &[u8]) -> Run {
+    let kind = lists::u8_at(s, 0);
+    match kind {
+        0 => gridded(run, searches::by_calls(s)),
+        1 => gridded(run, searches::by_tables(s)),
+        _ => added(run, answers::one(13, searches::replay(s, run.grid))),
+    }
 }
 
 // A block of a kind that asks nothing of the grid in hand.
@@ -109,13 +119,13 @@ fn tell(run: Run) {
     let counts = run.counts;
     blocks::say_counts(
         b"masks (forced, pruned, without diagonals), directions, turns, headings, distances, scaled:",
-        &counts,
+        counts,
         1,
         9,
     );
-    blocks::say_counts(b"steps, cells asked, questions asked:", &counts, 9, 12);
-    blocks::say_counts(b"grids, searches:", &counts, 12, 14);
-    blocks::say_counts(b"paths, checks, texts:", &counts, 14, 17);
+    blocks::say_counts(b"steps, cells asked, questions asked:", counts, 9, 12);
+    blocks::say_counts(b"grids, searches:", counts, 12, 14);
+    blocks::say_counts(b"paths, checks, texts:", counts, 14, 17);
     blocks::say(b"differences=", run.wrong);
 }
 

@@ -1,6 +1,6 @@
 // Blocks of runs of new, set, update and rebuild: all tables after every step, component numbers, masks and the four questions.
 // Their form stands at the head of oracle/tools/src/bin/tables.rs.
-ghost use Prim.Native.Nat.{_<_, _≤_};
+ghost use Prim.Native.Nat.{_≤_};
 use super::answers;
 use super::answers::Tally;
 use super::grids;
@@ -12,126 +12,104 @@ use grid::Outcome;
 use grid::Verdict;
 use points::Direction;
 use points::Point;
+use points::Refusal;
 
 // ---- the tables that the list tells
 
-// What the changes start from: the tables before the step, or a new grid's.
-fn started(kind: u8, s: &[u8], before: Grid) -> Grid {
+// What the changes start from: a new grid's tables, of which SIZE leaves one cell, or the tables before the step.
+fn started(s: &[u8], before: Grid) -> Grid {
+    let kind = lists::u8_at(s, 0);
     let w = lists::u8_at(s, 1) as usize;
     let h = lists::u8_at(s, 2) as usize;
-    if kind == 5 {
-        return grids::blank(w, h);
+    match kind {
+        0 => if lists::u8_at(s, 4) == 1 {
+            grids::blank(1, 1)
+        } else {
+            grids::blank(w, h)
+        },
+        5 => grids::blank(w, h),
+        _ => before,
     }
-    if kind != 0 {
-        return before;
-    }
-    if lists::u8_at(s, 4) == 1 {
-        return grids::blank(1, 1);
-    }
-    grids::blank(w, h)
-}
-
-fn one_change(g: Grid, s: &[u8], at: usize) -> Grid
-    requires { ⌜ at < 2000000 ⌝ }
-{
-    let table = lists::u8_at(s, at);
-    let cell = lists::u16_at(s, at + 1) as usize;
-    grids::changed(g, table, cell, lists::u16_at(s, at + 3))
-}
-
-fn with_changes(g: Grid, s: &[u8], count: usize) -> Grid
-    requires { ⌜ count < 65536 ⌝ }
-{
-    let mut out = g;
-    let mut k: usize = 0;
-    while k < count {
-        out = one_change(out, s, 10 + 5 * k);
-        k += 1;
-    }
-    out
 }
 
 // The tables after a step: the changes, and the mark.
 fn told(s: &[u8], before: Grid) -> Grid {
-    let g = started(lists::u8_at(s, 0), s, before);
-    let mut want = with_changes(g, s, lists::u16_at(s, 8) as usize);
+    let g = started(s, before);
+    let changes = answers::rest(s, 8);
+    let count = lists::u16_at(changes, 0) as usize;
+    let mut want = grids::with_records(1, g, true, changes, count);
     want.dirty = lists::u8_at(s, 5) == 1;
     want
 }
 
 // ---- the library's tables against them
 
-fn parent_at(a: &[u16], i: usize) -> u16 {
-    if i < a.len() {
-        return a[i];
-    }
-    0
-}
-
-fn parents_unlike_at(a: &[u16], b: &[u16], i: usize) -> u64 {
-    answers::unequal(parent_at(a, i) as u64, parent_at(b, i) as u64)
-}
-
-fn parents_unlike(a: &[u16], b: &[u16], n: usize) -> u64 {
-    let mut wrong: u64 = 0;
+// The differences before, and one more for each of the first n places where have is not want.
+fn bytes_unlike(before: u64, have: [u8; 4096], want: [u8; 4096], n: usize) -> u64
+    requires { ⌜ n ≤ 4096 ⌝ }
+{
+    let mut wrong = before;
     let mut i: usize = 0;
     while i < n {
-        wrong = std::num::wrapping_add_u64(wrong, parents_unlike_at(a, b, i));
+        wrong = std::num::wrapping_add_u64(wrong, (have[i] != want[i]) as u64);
         i += 1;
     }
     wrong
 }
 
-fn masks_unlike(a: Grid, b: Grid, n: usize) -> u64 {
-    let have = a.neighbours;
-    let want = b.neighbours;
-    let masks = answers::bytes_unlike(&have, &want, n);
-    let have = a.forced;
-    let want = b.forced;
-    std::num::wrapping_add_u64(masks, answers::bytes_unlike(&have, &want, n))
-}
-
-fn links_unlike(a: Grid, b: Grid, n: usize) -> u64 {
-    let have = a.parent;
-    let want = b.parent;
-    let parents = parents_unlike(&have, &want, n);
-    let have = a.rank;
-    let want = b.rank;
-    std::num::wrapping_add_u64(parents, answers::bytes_unlike(&have, &want, n))
+// The same of parents.
+fn parents_unlike(before: u64, have: [u16; 4096], want: [u16; 4096], n: usize) -> u64
+    requires { ⌜ n ≤ 4096 ⌝ }
+{
+    let mut wrong = before;
+    let mut i: usize = 0;
+    while i < n {
+        wrong = std::num::wrapping_add_u64(wrong, (have[i] != want[i]) as u64);
+        i += 1;
+    }
+    wrong
 }
 
 fn sides_unlike(a: Grid, b: Grid) -> u64 {
-    answers::unequal(a.width as u64, b.width as u64)
-        | answers::unequal(a.height as u64, b.height as u64)
-        | answers::unequal(a.dirty as u64, b.dirty as u64)
+    (a.width != b.width) as u64 | (a.height != b.height) as u64 | (a.dirty != b.dirty) as u64
 }
 
-fn tables_unlike(a: Grid, b: Grid, n: usize) -> u64 {
+fn tables_unlike(a: Grid, b: Grid, n: usize) -> u64
+    requires { ⌜ n ≤ 4096 ⌝ }
+{
     let have = a.blocked;
     let want = b.blocked;
-    let mut wrong = answers::bytes_unlike(&have, &want, n);
-    wrong = std::num::wrapping_add_u64(wrong, masks_unlike(a, b, n));
-    wrong = std::num::wrapping_add_u64(wrong, links_unlike(a, b, n));
-    std::num::wrapping_add_u64(wrong, sides_unlike(a, b))
+    let mut wrong = bytes_unlike(sides_unlike(a, b), have, want, n);
+    let have = a.neighbours;
+    let want = b.neighbours;
+    wrong = bytes_unlike(wrong, have, want, n);
+    let have = a.forced;
+    let want = b.forced;
+    wrong = bytes_unlike(wrong, have, want, n);
+    let have = a.rank;
+    let want = b.rank;
+    wrong = bytes_unlike(wrong, have, want, n);
+    let have = a.parent;
+    let want = b.parent;
+    parents_unlike(wrong, have, want, n)
 }
 
 // ---- questions of cells
 
-// 1 for POINT, 2 for STATE, as the list counts down from 65536; 3 for any other.
-fn refused_at(number: u8) -> u64
-    ensures { λ r. ⌜ r ≤ 3 ⌝ }
-{
+// A refusal as the list counts down from 65536: POINT, STATE, and any other.
+fn refused_told(r: Refusal, p: Point) -> u64 {
+    let number = answers::number_of(r, p);
     match number {
-        14 => 1,
-        2 => 2,
-        _ => 3,
+        14 => 65535,
+        2 => 65534,
+        _ => 65533,
     }
 }
 
 pub fn component_told(c: Component, p: Point) -> u64 {
     match c {
         Component::Is(n) => n as u64,
-        Component::Refused(r) => 65536 - refused_at(answers::number_of(r, p)),
+        Component::Refused(r) => refused_told(r, p),
     }
 }
 
@@ -139,77 +117,46 @@ pub fn component_told(c: Component, p: Point) -> u64 {
 fn mask_told(m: Mask, p: Point) -> u64 {
     match m {
         Mask::Is(v) => v as u64,
-        Mask::Refused(r) => 65536 - refused_at(answers::number_of(r, p)),
+        Mask::Refused(r) => refused_told(r, p),
     }
 }
 
-// A mask against the list's, or against the refusal where the component's number is one.
-fn mask_wrong(m: Mask, p: Point, number: u32, mask: u8) -> u64 {
+// A mask against the one at a place of r, or against the refusal where the component's number is one.
+fn mask_wrong(m: Mask, p: Point, number: u64, r: &[u8], at: usize) -> u64 {
+    let told = mask_told(m, p);
     if number < 65534 {
-        return answers::unequal(mask_told(m, p), mask as u64);
+        return answers::unequal(told, lists::u8_at(r, at) as u64);
     }
-    answers::unequal(mask_told(m, p), number as u64)
+    answers::unequal(told, number)
 }
 
-fn component_wrong(g: Grid, p: Point, number: u32) -> u64 {
-    answers::unequal(component_told(grid::get_component(g, p), p), number as u64)
-}
-
-fn masks_wrong(g: Grid, p: Point, number: u32, s: &[u8], at: usize) -> u64
-    requires { ⌜ at < 1900000 ⌝ }
-{
+fn masks_wrong(g: Grid, diagonal: bool, p: Point, number: u64, r: &[u8]) -> u64 {
     let n = grid::neighbour_mask(g, p);
     let f = grid::forced_mask(g, p);
-    mask_wrong(n, p, number, lists::u8_at(s, at + 6))
-        | mask_wrong(f, p, number, lists::u8_at(s, at + 7))
-}
-
-fn pruned_wrong(g: Grid, diagonal: bool, p: Point, number: u32, s: &[u8], at: usize) -> u64
-    requires { ⌜ at < 1900000 ⌝ }
-{
     let d = Direction {
-        number: lists::u8_at(s, at + 8),
+        number: lists::u8_at(r, 8),
     };
     let m = grid::pruned_mask(g, diagonal, p, d);
-    mask_wrong(m, p, number, lists::u8_at(s, at + 9))
+    mask_wrong(n, p, number, r, 6) | mask_wrong(f, p, number, r, 7) | mask_wrong(m, p, number, r, 9)
 }
 
-fn cell_wrong(g: Grid, diagonal: bool, s: &[u8], at: usize) -> u64
-    requires { ⌜ at < 1900000 ⌝ }
-{
-    let p = answers::point_at(s, at);
-    let number = lists::u16_at(s, at + 4);
-    component_wrong(g, p, number)
-        | masks_wrong(g, p, number, s, at)
-        | pruned_wrong(g, diagonal, p, number, s, at)
-}
-
-fn cells_wrong(g: Grid, diagonal: bool, s: &[u8], from: usize, count: usize) -> u64
-    requires { ⌜ (from < 500000) × (count < 65536) ⌝ }
-{
-    let mut wrong: u64 = 0;
-    let mut k: usize = 0;
-    while k < count {
-        wrong = std::num::wrapping_add_u64(wrong, cell_wrong(g, diagonal, s, from + 10 * k));
-        k += 1;
-    }
-    wrong
+// A question of ten bytes.
+fn cell_wrong(g: Grid, diagonal: bool, r: &[u8]) -> u64 {
+    let p = answers::point_at(r, 0);
+    let number = lists::u16_at(r, 4) as u64;
+    let c = grid::get_component(g, p);
+    answers::unequal(component_told(c, p), number) | masks_wrong(g, diagonal, p, number, r)
 }
 
 // ---- questions who can reach whom
 
 // 254 for POINT with the start, 253 for POINT with the goal, 255 for STATE, 252 for any other.
-fn refused_told(start: u8, goal: u8) -> u8 {
-    if start == 14 {
-        return 254;
+fn reach_refused(start: u8, goal: u8) -> u8 {
+    match start {
+        14 => 254,
+        2 => 255,
+        _ => if goal == 14 { 253 } else { 252 },
     }
-    if goal == 14 {
-        return 253;
-    }
-    if start == 2 {
-        return 255;
-    }
-    252
 }
 
 // A bit of the answer, or the refusal.
@@ -217,7 +164,7 @@ fn verdict_told(v: Verdict, bit: u8, start: Point, goal: Point) -> u8 {
     match v {
         Verdict::Yes => bit,
         Verdict::No => 0,
-        Verdict::Refused(r) => refused_told(
+        Verdict::Refused(r) => reach_refused(
             answers::number_of(r, start),
             answers::number_of(r, goal),
         ),
@@ -233,67 +180,75 @@ fn wanted(bits: u8, bit: u8) -> u8 {
 }
 
 fn verdict_wrong(v: Verdict, bit: u8, bits: u8, start: Point, goal: Point) -> u64 {
-    let told = verdict_told(v, bit, start, goal);
-    answers::unequal(told as u64, wanted(bits, bit) as u64)
+    (verdict_told(v, bit, start, goal) != wanted(bits, bit)) as u64
 }
 
-fn reachable_wrong(g: Grid, a: Point, b: Point, bits: u8) -> u64 {
-    let yes = grid::reachable(g, a, b);
-    let no = grid::unreachable(g, a, b);
-    verdict_wrong(yes, 1, bits, a, b) | verdict_wrong(no, 2, bits, a, b)
+// A question of nine bytes.
+fn reach_wrong(g: Grid, diagonal: bool, r: &[u8]) -> u64 {
+    let a = answers::point_at(r, 0);
+    let b = answers::point_at(r, 4);
+    let bits = lists::u8_at(r, 8);
+    verdict_wrong(grid::reachable(g, a, b), 1, bits, a, b)
+        | verdict_wrong(grid::unreachable(g, a, b), 2, bits, a, b)
+        | verdict_wrong(grid::neighbours_reachable(g, diagonal, a, b), 4, bits, a, b)
+        | verdict_wrong(
+            grid::neighbours_unreachable(g, diagonal, a, b),
+            8,
+            bits,
+            a,
+            b,
+        )
 }
 
-fn neighbours_wrong(g: Grid, diagonal: bool, a: Point, b: Point, bits: u8) -> u64 {
-    let yes = grid::neighbours_reachable(g, diagonal, a, b);
-    let no = grid::neighbours_unreachable(g, diagonal, a, b);
-    verdict_wrong(yes, 4, bits, a, b) | verdict_wrong(no, 8, bits, a, b)
-}
+// ---- questions after a step
 
-fn reach_wrong(g: Grid, diagonal: bool, s: &[u8], at: usize) -> u64
-    requires { ⌜ at < 1900000 ⌝ }
-{
-    let a = answers::point_at(s, at);
-    let b = answers::point_at(s, at + 4);
-    let bits = lists::u8_at(s, at + 8);
-    reachable_wrong(g, a, b, bits) | neighbours_wrong(g, diagonal, a, b, bits)
-}
-
-fn reaches_wrong(g: Grid, diagonal: bool, s: &[u8], from: usize, count: usize) -> u64
-    requires { ⌜ (from < 1200000) × (count < 65536) ⌝ }
-{
-    let mut wrong: u64 = 0;
-    let mut k: usize = 0;
-    while k < count {
-        wrong = std::num::wrapping_add_u64(wrong, reach_wrong(g, diagonal, s, from + 9 * k));
-        k += 1;
+// A question of ten bytes is of a cell, and one of nine who can reach whom.
+fn question_wrong(g: Grid, diagonal: bool, width: usize, r: &[u8]) -> u64 {
+    if width == 10 {
+        return cell_wrong(g, diagonal, r);
     }
-    wrong
+    reach_wrong(g, diagonal, r)
+}
+
+// The questions that s begins with: a count of two bytes, and then the questions, of this width.
+pub fn asked(g: Grid, diagonal: bool, place: usize, width: usize, s: &[u8]) -> Tally
+    requires { ⌜ width ≤ 10 ⌝ }
+{
+    let count = lists::u16_at(s, 0);
+    let mut left = count;
+    let mut at: usize = 2;
+    let mut wrong: u64 = 0;
+    while 0 < left {
+        let r = answers::rest(s, at);
+        wrong = std::num::wrapping_add_u64(wrong, question_wrong(g, diagonal, width, r));
+        at += width;
+        left -= 1;
+    }
+    Tally {
+        place,
+        count: count as u64,
+        wrong,
+    }
+}
+
+// A step's questions of cells, after its changes.
+pub fn after_changes<'a>(s: &'a [u8]) -> &'a [u8] {
+    answers::rest(s, 10 + 5 * lists::u16_at(s, 8) as usize)
+}
+
+// Its questions who can reach whom, after those of cells.
+pub fn after_cells<'a>(cells: &'a [u8]) -> &'a [u8] {
+    answers::rest(cells, 2 + 10 * lists::u16_at(cells, 0) as usize)
 }
 
 // ---- steps
-
-// The point of a set.
-fn edited(s: &[u8]) -> Point {
-    Point {
-        x: lists::u8_at(s, 1) as i32,
-        y: lists::u8_at(s, 2) as i32,
-    }
-}
-
-fn edit(s: &[u8], g: Grid, diagonal: bool) -> Change {
-    grid::set(g, diagonal, edited(s), lists::u8_at(s, 3) == 1)
-}
-
-fn new(s: &[u8]) -> Change {
-    grid::new(lists::u8_at(s, 1) as usize, lists::u8_at(s, 2) as usize)
-}
 
 // The call of a step. A grid that no calls made is the list's.
 pub fn call(s: &[u8], g: Grid, diagonal: bool) -> Change {
     let kind = lists::u8_at(s, 0);
     match kind {
-        0 => new(s),
-        1 => edit(s, g, diagonal),
+        0 => grid::new(lists::u8_at(s, 1) as usize, lists::u8_at(s, 2) as usize),
+        1 => grids::edit(g, diagonal, answers::rest(s, 1)),
         2 => grid::update(g, diagonal),
         3 => grid::generate_components(g, diagonal),
         5 => grids::kept(told(s, g)),
@@ -301,10 +256,10 @@ pub fn call(s: &[u8], g: Grid, diagonal: bool) -> Change {
     }
 }
 
-pub fn outcome_told(o: Outcome, p: Point) -> u64 {
+pub fn outcome_told(o: Outcome, p: Point) -> u8 {
     match o {
         Outcome::Done => 0,
-        Outcome::Refused(r) => answers::number_of(r, p) as u64,
+        Outcome::Refused(r) => answers::number_of(r, p),
     }
 }
 
@@ -321,39 +276,9 @@ pub fn turned(s: &[u8], diagonal: bool) -> bool {
 
 // The outcome of a step, and every table after it.
 pub fn compare(s: &[u8], before: Grid, change: Change) -> Tally {
-    let have = change.grid;
     let outcome = change.outcome;
-    let wrong = answers::byte_wrong(outcome_told(outcome, edited(s)), s, 4);
-    let unlike = tables_unlike(have, told(s, before), lists::u16_at(s, 6) as usize);
+    let told_outcome = outcome_told(outcome, answers::small_point(s, 1));
+    let unlike = tables_unlike(change.grid, told(s, before), answers::count_at(s, 6, 4096));
+    let wrong = answers::byte_wrong(told_outcome, s, 4);
     answers::one(9, std::num::wrapping_add_u64(wrong, unlike))
-}
-
-// Where a step's questions of cells stand in its block: after the changes.
-fn cells_from(s: &[u8]) -> usize
-    ensures { λ r. ⌜ r < 400000 ⌝ }
-{
-    10 + 5 * lists::u16_at(s, 8) as usize
-}
-
-// The questions of cells.
-pub fn cells(g: Grid, diagonal: bool, s: &[u8]) -> Tally {
-    let from = cells_from(s);
-    let count = lists::u16_at(s, from) as usize;
-    Tally {
-        place: 10,
-        count: count as u64,
-        wrong: cells_wrong(g, diagonal, s, from + 2, count),
-    }
-}
-
-// The questions who can reach whom, after those of cells.
-pub fn questions(g: Grid, diagonal: bool, s: &[u8]) -> Tally {
-    let from = cells_from(s);
-    let then = from + 2 + 10 * lists::u16_at(s, from) as usize;
-    let count = lists::u16_at(s, then) as usize;
-    Tally {
-        place: 11,
-        count: count as u64,
-        wrong: reaches_wrong(g, diagonal, s, then + 2, count),
-    }
 }

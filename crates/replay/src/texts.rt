@@ -13,7 +13,13 @@ fn unlike(a: &[u8], b: &[u8]) -> u64 {
     if a.len() != b.len() {
         return 1;
     }
-    answers::bytes_unlike(a, b, a.len())
+    let mut wrong: u64 = 0;
+    let mut i: usize = 0;
+    while i < a.len() {
+        wrong = std::num::wrapping_add_u64(wrong, answers::byte_wrong(a[i], b, i));
+        i += 1;
+    }
+    wrong
 }
 
 // What `route` prints of a text, and how many bytes it is.
@@ -32,11 +38,8 @@ fn printed_wrong(text: &[u8], want: &[u8]) -> u64 {
 
 // How a text that is read differs from what is written of the map.
 fn written_wrong(text: &[u8], m: MapRead) -> u64 {
-    let g = m.grid;
-    let start = m.start;
-    let goal = m.goal;
     let mut out = [0u8; maps::TEXT];
-    let put = floors::write_map(&mut out, g, m.diagonal, start, goal);
+    let put = floors::write_map(&mut out, m.grid, m.diagonal, m.start, m.goal);
     let Put::Bytes(n) = put else {
         return 1;
     };
@@ -62,5 +65,5 @@ pub fn replay(s: &[u8]) -> u64 {
         return 1;
     }
     let text = &s[2..to];
-    std::num::wrapping_add_u64(printed_wrong(text, &s[to..]), rewritten(text))
+    std::num::wrapping_add_u64(printed_wrong(text, answers::rest(s, to)), rewritten(text))
 }

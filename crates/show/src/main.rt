@@ -1,5 +1,6 @@
 // Reads a map on standard input, or those in the files that are named, and draws each floor with its route:
 // S start, G goal, o waypoint, * walked, # blocked, . free. What came of the search stands under it, in words.
+use finder::Answer;
 use finder::Outcome;
 use grid::Grid;
 use libc::STDIN_FILENO;
@@ -151,6 +152,17 @@ fn put_route(canvas: &mut [u8], w: usize, h: usize, list: &[i32], outcome: Outco
     put_all(canvas, w, h, list, n, b'o');
 }
 
+// What came of a search.
+fn say_answer(answer: Answer) {
+    let outcome = answer.outcome;
+    match outcome {
+        Outcome::Found(n, _) => say_number(b"found, waypoints: ", n),
+        Outcome::Refused(r) => say_refusal(r),
+    }
+    say_number(b"\npops of the search: ", answer.pops);
+    say(b"\n");
+}
+
 // Searches, draws and tells.
 fn draw(g: Grid, diagonal: bool, start: Point, goal: Point) {
     let w = g.width;
@@ -165,12 +177,7 @@ fn draw(g: Grid, diagonal: bool, start: Point, goal: Point) {
     put(&mut canvas, w, h, start, b'S');
     put(&mut canvas, w, h, goal, b'G');
     say_rows(&canvas, w, h);
-    match outcome {
-        Outcome::Found(n, _) => say_number(b"found, waypoints: ", n),
-        Outcome::Refused(r) => say_refusal(r),
-    }
-    say_number(b"\npops of the search: ", answer.pops);
-    say(b"\n");
+    say_answer(answer);
 }
 
 // Shows the map that can be read from a file descriptor.
@@ -183,13 +190,8 @@ fn show_from(fd: i32) {
         say_bad(r.told().line);
         return;
     }
-    let floor = m.grid;
-    let start = m.start;
-    let goal = m.goal;
-    let diagonal = m.diagonal;
-    let rebuilt = grid::generate_components(floor, diagonal);
-    let g = rebuilt.grid;
-    draw(g, diagonal, start, goal);
+    let rebuilt = grid::generate_components(m.grid, m.diagonal);
+    draw(rebuilt.grid, m.diagonal, m.start, m.goal);
 }
 
 // Shows the map in the file that an argument names.
@@ -200,9 +202,10 @@ fn show_file(i: usize) {
         os::fail(b"show: file name");
         return;
     }
-    let fd = os::open_read(&path[..length]);
+    let name = &path[..length];
+    let fd = os::open_read(name);
     if fd < 0 {
-        os::fail(&path[..length]);
+        os::fail(name);
         return;
     }
     show_from(fd);

@@ -7,10 +7,19 @@ use Rattle.replay.proofs.answers.unlike.Statement.{statement}
 use Rattle.replay.proofs.answers.unlike.Tie as tie
 
 abbrev Inv-loop : tie.InvT-loop
-Inv-loop s at count out wrong₀ k₀ wrong k = k ≤ length out
+Inv-loop s out count wrong₀ k₀ wrong k = k ≤ length out
 
 abbrev μ-loop : tie.MeasureT-loop
-μ-loop s at count out wrong₀ k₀ wrong k = length out - k
+μ-loop s out count wrong₀ k₀ wrong k = length out - k
+
+u16-at-requires : tie.Need-u16-at-requires Inv-loop μ-loop
+u16-at-requires c κs = search needs
+
+cast-count : tie.Need-cast-count Inv-loop μ-loop
+cast-count c = omega arith
+
+mul-count : tie.Need-mul-count Inv-loop μ-loop
+mul-count c = omega arith
 
 loop-holds : tie.Need-loop-holds Inv-loop μ-loop
 loop-holds c = omega arith
@@ -22,7 +31,7 @@ shared-slice-copy-out-unlike-at : tie.Need-shared-slice-copy-out-unlike-at Inv-l
 shared-slice-copy-out-unlike-at c = omega arith
 
 unlike-at-requires : tie.Need-unlike-at-requires Inv-loop μ-loop
-unlike-at-requires c κs = search needs
+unlike-at-requires c κs = omega arith
 
 wrapping-add-u64-requires : tie.Need-wrapping-add-u64-requires Inv-loop μ-loop
 wrapping-add-u64-requires c κs = search needs
@@ -45,6 +54,9 @@ unlike-spec =
     (tie.spec
     Inv-loop
     μ-loop
+    u16-at-requires
+    cast-count
+    mul-count
     loop-holds
     mul-unlike-at
     shared-slice-copy-out-unlike-at

@@ -6,16 +6,28 @@ use Rattle.replay.proofs.tables.parents_unlike.Statement.{statement}
 use Rattle.replay.proofs.tables.parents_unlike.Tie as tie
 
 abbrev Inv-loop : tie.InvT-loop
-Inv-loop a b n wrong₀ i₀ wrong i = i ≤ n
+Inv-loop before n have want wrong₀ i₀ wrong i = i ≤ n
 
 abbrev μ-loop : tie.MeasureT-loop
-μ-loop a b n wrong₀ i₀ wrong i = n - i
+μ-loop before n have want wrong₀ i₀ wrong i = n - i
 
 loop-holds : tie.Need-loop-holds Inv-loop μ-loop
 loop-holds c = omega arith
 
-parents-unlike-at-requires : tie.Need-parents-unlike-at-requires Inv-loop μ-loop
-parents-unlike-at-requires c κs = search needs
+mul-wrapping-add-u64 : tie.Need-mul-wrapping-add-u64 Inv-loop μ-loop
+mul-wrapping-add-u64 c = omega arith
+
+array-read-wrapping-add-u64 : tie.Need-array-read-wrapping-add-u64 Inv-loop μ-loop
+array-read-wrapping-add-u64 c = omega arith
+
+mul-wrapping-add-u64-2 : tie.Need-mul-wrapping-add-u64-2 Inv-loop μ-loop
+mul-wrapping-add-u64-2 c = omega arith
+
+array-read-wrapping-add-u64-2 : tie.Need-array-read-wrapping-add-u64-2 Inv-loop μ-loop
+array-read-wrapping-add-u64-2 c = omega arith
+
+cast-wrapping-add-u64 : tie.Need-cast-wrapping-add-u64 Inv-loop μ-loop
+cast-wrapping-add-u64 c = omega arith
 
 wrapping-add-u64-requires : tie.Need-wrapping-add-u64-requires Inv-loop μ-loop
 wrapping-add-u64-requires c κs = search needs
@@ -39,7 +51,11 @@ parents-unlike-spec =
     Inv-loop
     μ-loop
     loop-holds
-    parents-unlike-at-requires
+    mul-wrapping-add-u64
+    array-read-wrapping-add-u64
+    mul-wrapping-add-u64-2
+    array-read-wrapping-add-u64-2
+    cast-wrapping-add-u64
     wrapping-add-u64-requires
     add-i
     loop-less

@@ -1,21 +1,27 @@
--- `replay::answers::bytes_unlike` is safe and ends: one place a turn. Assumes nothing.
+-- `replay::tables::bytes_unlike` is safe and ends: one place a turn. Assumes nothing.
 use Prim.Native.Nat.{_-_, _≤_}
 use native.Mathlib.Omega.{arith}
 use borrow.Author.Needs.{needs}
-use Rattle.replay.proofs.answers.bytes_unlike.Statement.{statement}
-use Rattle.replay.proofs.answers.bytes_unlike.Tie as tie
+use Rattle.replay.proofs.tables.bytes_unlike.Statement.{statement}
+use Rattle.replay.proofs.tables.bytes_unlike.Tie as tie
 
 abbrev Inv-loop : tie.InvT-loop
-Inv-loop a b n wrong₀ i₀ wrong i = i ≤ n
+Inv-loop before n have want wrong₀ i₀ wrong i = i ≤ n
 
 abbrev μ-loop : tie.MeasureT-loop
-μ-loop a b n wrong₀ i₀ wrong i = n - i
+μ-loop before n have want wrong₀ i₀ wrong i = n - i
 
 loop-holds : tie.Need-loop-holds Inv-loop μ-loop
 loop-holds c = omega arith
 
-byte-unlike-requires : tie.Need-byte-unlike-requires Inv-loop μ-loop
-byte-unlike-requires c κs = search needs
+array-read-wrapping-add-u64 : tie.Need-array-read-wrapping-add-u64 Inv-loop μ-loop
+array-read-wrapping-add-u64 c = omega arith
+
+array-read-wrapping-add-u64-2 : tie.Need-array-read-wrapping-add-u64-2 Inv-loop μ-loop
+array-read-wrapping-add-u64-2 c = omega arith
+
+cast-wrapping-add-u64 : tie.Need-cast-wrapping-add-u64 Inv-loop μ-loop
+cast-wrapping-add-u64 c = omega arith
 
 wrapping-add-u64-requires : tie.Need-wrapping-add-u64-requires Inv-loop μ-loop
 wrapping-add-u64-requires c κs = search needs
@@ -39,7 +45,9 @@ bytes-unlike-spec =
     Inv-loop
     μ-loop
     loop-holds
-    byte-unlike-requires
+    array-read-wrapping-add-u64
+    array-read-wrapping-add-u64-2
+    cast-wrapping-add-u64
     wrapping-add-u64-requires
     add-i
     loop-less
