@@ -49,7 +49,8 @@ static void draw(const int32_t *list, size_t points)
         printf("    %s\n", rows[y]);
 }
 
-/* Can the cart get to the bench? A yes is hopeful while the grid is dirty; a no is true. */
+/* Can the cart get to the bench? A no is true. A yes is hopeful while the grid is dirty, and else true, since this program tells its
+   gates by barnsling_grid_gate (a_repeated_order shows what it spares). */
 static void ask(void)
 {
     uint64_t v = barnsling_grid_reachable(&grid, CART_X, CART_Y, BENCH_X, BENCH_Y);
@@ -60,7 +61,7 @@ static void ask(void)
     else if (grid.dirty)
         printf("Can the cart get there? Yes, hopefully: a gate has shut since the tables were built.\n");
     else
-        printf("Can the cart get there? Yes.\n");
+        printf("Can the cart get there? Yes, and that is true.\n");
 }
 
 static struct barnsling_route send_cart(void)
@@ -105,9 +106,9 @@ static void nearest_table(void)
 /* Every cell of the way, for the cart's own controller, and whether they are clear. */
 static void walk(const struct barnsling_route *r)
 {
-    static int32_t path[BARNSLING_OUT];
+    static int32_t path[BARNSLING_PATH];
     size_t numbers = 2 * (size_t)r->waypoints;
-    struct barnsling_reply p = barnsling_waypoints_to_path(rooms.out, numbers, path, BARNSLING_OUT);
+    struct barnsling_reply p = barnsling_waypoints_to_path(rooms.out, numbers, path, BARNSLING_PATH);
     struct barnsling_reply clear;
     if (p.refusal != 0)
         return;
@@ -115,13 +116,39 @@ static void walk(const struct barnsling_route *r)
     printf("The path has %d cells and is %s.\n", (int)p.value, clear.value ? "clear" : "not clear");
     draw(path, (size_t)p.value);
 
-    barnsling_grid_set(&grid, GATE_X, GATE_Y, 1);
+    barnsling_grid_gate(&grid, GATE_X, GATE_Y, 1);
     clear = barnsling_grid_check_route(&grid, path, 2 * (size_t)p.value);
     printf("The gate shuts while the cart is under way: the path is %s.\n", clear.value ? "clear" : "not clear");
-    barnsling_grid_set(&grid, GATE_X, GATE_Y, 0);
+    barnsling_grid_gate(&grid, GATE_X, GATE_Y, 0);
 
     p = barnsling_waypoints_to_path(rooms.out, numbers, path, 4);
     printf("The path in room for 2 points: refused, %s (%d)\n", barnsling_refusal_name((int)p.refusal), (int)p.refusal);
+}
+
+/* What the tables say and what a search finds, while the gate is shut. */
+static void told(const char *after)
+{
+    uint64_t v = barnsling_grid_reachable(&grid, CART_X, CART_Y, BENCH_X, BENCH_Y);
+    struct barnsling_route r = barnsling_grid_single_goal(&grid, &rooms, CART_X, CART_Y, BENCH_X, BENCH_Y);
+    printf("%s: the tables say %s, the grid is %s, a search ends with %s.\n", after, v ? "yes" : "no",
+        grid.dirty ? "dirty" : "not dirty", barnsling_refusal_name((int)r.refusal));
+}
+
+/* A controller that says "shut" of a gate that is shut. A false yes comes of it, and an update does not heal it; barnsling_grid_gate
+   asks first whether the cell is blocked. */
+static void a_repeated_order(void)
+{
+    barnsling_grid_gate(&grid, GATE_X, GATE_Y, 1);
+    barnsling_grid_rebuild(&grid);
+    told("Shut, and rebuilt");
+    barnsling_grid_gate(&grid, GATE_X, GATE_Y, 1);
+    told("Shut again by barnsling_grid_gate");
+    barnsling_grid_set(&grid, GATE_X, GATE_Y, 1);
+    told("Shut again by barnsling_grid_set");
+    barnsling_grid_update(&grid);
+    told("Updated");
+    barnsling_grid_rebuild(&grid);
+    told("Rebuilt");
 }
 
 /* A whole map as text, as the program `route` reads it. */
@@ -137,6 +164,10 @@ int main(void)
 {
     struct barnsling_route r;
 
+    if (barnsling_version() != BARNSLING_VERSION) {
+        printf("the archive is of version %d, this program of version %d\n", (int)barnsling_version(), BARNSLING_VERSION);
+        return 1;
+    }
     if (!build_the_floor())
         return 1;
     printf("The floor, rebuilt at five:\n");
@@ -146,7 +177,7 @@ int main(void)
     nearest_table();
 
     printf("\nThe gate at (4,2) shuts.\n");
-    refused("gate", barnsling_grid_set(&grid, GATE_X, GATE_Y, 1));
+    refused("gate", barnsling_grid_gate(&grid, GATE_X, GATE_Y, 1));
     ask();
     send_cart();
 
@@ -156,16 +187,20 @@ int main(void)
     send_cart();
 
     printf("\nThe gate opens.\n");
-    refused("gate", barnsling_grid_set(&grid, GATE_X, GATE_Y, 0));
+    refused("gate", barnsling_grid_gate(&grid, GATE_X, GATE_Y, 0));
     ask();
     r = send_cart();
 
     printf("\nOrders with a slip of the pen:\n");
-    refused("set (9,2)", barnsling_grid_set(&grid, 9, 2, 1));
+    refused("gate (9,2)", barnsling_grid_gate(&grid, 9, 2, 1));
+    refused("a new grid of 65 by 5", barnsling_grid_new(&grid, 65, 5));
+    printf("the grid is still %d by %d\n", (int)grid.width, (int)grid.height);
     refused("from (0,4) to (8000,0)", barnsling_grid_reachable(&grid, CART_X, CART_Y, 8000, BENCH_Y));
 
     printf("\n");
     walk(&r);
+    printf("\nA gate that is told to shut twice:\n");
+    a_repeated_order();
     printf("\nA map as text:\n");
     route_a_text("width=3\nheight=1\ndiagonal=1\nstart=0,0\ngoal=2,0\nrow=...\n");
     printf("The same with a letter too many in its last line:\n");

@@ -1,25 +1,36 @@
 /*
  * Barnsling for C and C++: can this cart get there, and which way?
  *
- * Link with target/staticlib/libboundary.a, which `rt staticlib boundary` makes (x86-64). It needs no other library.
- * Most programs want only the last part of this file, "A grid in one struct"; c/example.c is a whole program.
+ * Link with target/staticlib/libboundary.a, which `rt staticlib boundary` makes, for x86-64 alone. Of other libraries it wants
+ * memcpy and memset and nothing else. Most programs want only the last part of this file, "A grid in one struct"; c/example.c is
+ * a whole program.
  *
  * THE RULE. Once the tables have been built (barnsling_rebuild), a no between two different free cells is always true.
  * A yes may be hopeful after a gate has shut, until the tables are built again. The rule holds as long as the diagonal
  * flag stays the one that the tables were built with.
  *
  * A DAY. New tables; block the benches and walls; rebuild. Each gate that opens or shuts is one barnsling_set, and
- * questions may follow at once: nothing is rebuilt. barnsling_update, when there is time, makes hopeful answers exact.
+ * questions may follow at once: nothing is rebuilt. When there is time, barnsling_update builds the tables again if a gate has
+ * shut since, and after it a yes is true too.
+ *
+ * GATES THAT REPEAT THEMSELVES. A yes is true after barnsling_update only if no order since the last rebuild blocked a cell that was
+ * blocked already. Such an order joins the cell's free neighbours in the tables, as if the gate were open, and leaves the dirty mark
+ * as it was. So a yes may be false on a grid that is not dirty: barnsling_update does nothing there, and a search ends in EXHAUSTED;
+ * barnsling_rebuild heals it. A controller that repeats its orders asks barnsling_blocked_at first, and leaves a cell alone that is
+ * already as ordered; barnsling_grid_gate, below, does just that. A no is true all the same.
  *
  * MEMORY. You own all of it and lend it for one call. Nothing is kept between calls; nothing is allocated; there are no
  * globals. Threads may call at once, as long as no table that one call writes is lent to another call. A table is lent
- * as a pointer and its number of entries. The pointer must not be null, must be aligned for its type, and what a call
- * writes must not overlap anything else lent to that call. This is all that you owe: every call tests the rest, and a
+ * as a pointer and its number of entries. The pointer must be aligned for its type, it may be null only if the number of entries is 0,
+ * and what a call writes must not overlap anything else lent to that call. This is all that you owe: every call tests the rest, and a
  * table that is too short or holds nonsense is refused by name.
  *
- * STACK. On x86-64: a search takes about 4 kB and 1.1 kB more for each level of its depth limit, by its frames at most 75 kB
- * (the most seen was 42 kB). barnsling_route_text keeps a grid and working room there: 343 kB was the most seen, so give it
- * 512 kB. Every other call takes less than 2 kB.
+ * COST. A call that is lent tables tests every cell of them first: TESTTIME at 64 by 64. A question and an edit take little
+ * more, a rebuild some REBUILDTIME, a search SEARCHTIME (one machine; docs/PERFORMANCE.md has the figures).
+ *
+ * STACK. A search takes about 5 kB and up to 1.3 kB more for each level of its depth limit: by its frames at most 90 kB (63 kB was the
+ * most seen). barnsling_route_text keeps a grid and working room there too, some 340 kB: give it 512 kB. The pruned masks take 2.3 kB,
+ * every other call less than 1 kB.
  *
  * CELLS. The cell (x, y) is the entry y * width + x of each table. Row 0 is the northern one. Directions 0 to 7 go
  * clockwise from north: (0,-1), (1,-1), (1,0), (1,1), (0,1), (-1,1), (-1,0), (-1,-1). In a mask, bit d is direction d.
@@ -35,6 +46,13 @@
 #ifdef __cplusplus
 extern "C" {
 #endif
+
+/* The number of this interface. It rises where a declaration, an answer's form or a refusal's number changes: a program that was
+   built with another number than the archive's must be built anew. */
+#define BARNSLING_VERSION 2
+
+/* The archive's number. Ask it once, and go on only if it is BARNSLING_VERSION. */
+uint32_t barnsling_version(void);
 
 /* ---- Limits and sizes ------------------------------------------------------------------------------------------ */
 
@@ -54,6 +72,7 @@ enum {
     BARNSLING_PLACES = 4097,         /* number, place, parent and cost of the working room */
     BARNSLING_FRINGE_ENTRIES = 8192, /* keys and idx of the working room */
     BARNSLING_OUT = 8194,            /* waypoints out, two numbers each */
+    BARNSLING_PATH = 516098,         /* the path of every route that a search finds, two numbers each: 4,096 legs of at most 63 steps */
     BARNSLING_TEXT = 8192,           /* the longest map text, in bytes */
     BARNSLING_TEXT_ROOM = 82100      /* what barnsling_route_text wants for its answer, in bytes */
 };
@@ -81,7 +100,7 @@ enum barnsling_refusal {
 /* Most calls answer one uint64_t: the value, which is below 2^32, or a refusal in the upper half. */
 #define BARNSLING_REFUSED(v) (((v) >> 32) != 0)             /* whether an answer is a refusal */
 #define BARNSLING_REFUSAL(v) ((int)(((v) >> 32) & 255))     /* its number, as above; 0 where there is none */
-/* Where POINT is refused by a call that takes two points: 1 for the first or the start, 2 for the second or the goal. */
+/* Where POINT is refused by a call that takes two points: 1 for the first or the start, 2 for the second or the goal. Else 0. */
 #define BARNSLING_WHICH_POINT(v) ((int)(((v) >> 40) & 3))
 
 /* A refusal's name, for logs. */
@@ -120,8 +139,9 @@ uint64_t barnsling_scaled_distance(float factor, uint8_t diagonal, int32_t ax, i
  * parent      the components, as a union-find: the cell's parent ...
  * rank        ... and its rank
  *
- * A grid has one more bit, the dirty mark: a gate has shut since the tables were built. You keep it. barnsling_set and
- * barnsling_update take it, and barnsling_set, barnsling_rebuild and barnsling_update answer what it is afterwards.
+ * A grid has one more bit, the dirty mark: a free cell was blocked since the tables were built. You keep it. barnsling_set and
+ * barnsling_update take it, and barnsling_set, barnsling_rebuild and barnsling_update answer what it is afterwards. On a grid that
+ * is not dirty a yes is true, but for what GATES THAT REPEAT THEMSELVES says.
  */
 
 /* A new grid: all cells free, each its own component, so rebuild before you ask. Answers 0, the dirty mark.
@@ -131,7 +151,8 @@ uint64_t barnsling_new(
     uint16_t *parent, size_t parent_len, uint8_t *rank, size_t rank_len, size_t width, size_t height);
 
 /* Blocks (a flag) or frees the cell (x, y). Answers the dirty mark afterwards, 0 or 1. Refuses STATE, then POINT.
-   A free cell that becomes blocked sets the mark; every other edit leaves it as it was passed. */
+   A free cell that becomes blocked sets the mark; every other edit leaves it as it was passed, and joins the cell with its free
+   neighbours, also one that blocks a blocked cell again: see GATES THAT REPEAT THEMSELVES. */
 uint64_t barnsling_set(
     uint8_t *blocked, size_t blocked_len, uint8_t *neighbours, size_t neighbours_len, uint8_t *forced, size_t forced_len,
     uint16_t *parent, size_t parent_len, uint8_t *rank, size_t rank_len, size_t width, size_t height,
@@ -142,12 +163,18 @@ uint64_t barnsling_rebuild(
     const uint8_t *blocked, size_t blocked_len, uint16_t *parent, size_t parent_len, uint8_t *rank, size_t rank_len,
     size_t width, size_t height, uint8_t diagonal);
 
-/* The same, but only if dirty. Answers 0, the dirty mark afterwards. Refuses STATE. */
+/* The same, but only if dirty: on a grid that is not, nothing is built and no false yes is healed. Answers 0, the dirty mark
+   afterwards. Refuses STATE. */
 uint64_t barnsling_update(
     const uint8_t *blocked, size_t blocked_len, uint16_t *parent, size_t parent_len, uint8_t *rank, size_t rank_len,
     size_t width, size_t height, uint8_t diagonal, uint8_t dirty);
 
 /* ---- Questions: who can reach whom, from the tables, with no search --------------------------------------------- */
+
+/* Whether the cell (x, y) is blocked: 1 or 0. Refuses STATE, then POINT. */
+uint64_t barnsling_blocked_at(
+    const uint8_t *blocked, size_t blocked_len, const uint16_t *parent, size_t parent_len,
+    const uint8_t *rank, size_t rank_len, size_t width, size_t height, int32_t x, int32_t y);
 
 /* The component of the cell (x, y), as a number below width * height. Refuses STATE, then POINT. */
 uint64_t barnsling_component(
@@ -264,7 +291,7 @@ uint64_t barnsling_route_text(const uint8_t *text, size_t text_len, uint8_t *out
 /*
  * The same calls, with the tables, the dirty mark and the settings in one struct, and the working room in another.
  * Both are plain memory: make them static or allocate them as you like (about 25 kB and 213 kB).
- * Every wrapper answers what the call it wraps answers, and looks after the dirty mark.
+ * Every wrapper answers what the call it wraps answers, and looks after the dirty mark. One does more, and says so: barnsling_grid_gate.
  */
 
 struct barnsling_settings {
@@ -277,7 +304,7 @@ struct barnsling_settings {
 struct barnsling_grid {
     size_t width, height;
     struct barnsling_settings settings; /* may be changed at any time; after a change of diagonal, rebuild */
-    uint8_t dirty;                      /* a gate has shut since the tables were built */
+    uint8_t dirty;                      /* a free cell was blocked since the tables were built */
     uint8_t blocked[BARNSLING_CELLS];
     uint8_t neighbours[BARNSLING_CELLS];
     uint8_t forced[BARNSLING_CELLS];
@@ -308,19 +335,24 @@ static inline struct barnsling_settings barnsling_new_settings(void)
     return s;
 }
 
-/* A new grid, all free, with a new grid's settings. Refuses SIZE; every later call on such a grid refuses STATE. */
+/* A new grid, all free, with a new grid's settings. Refuses SIZE, and then writes nothing: a grid that was good stays as it was, and
+   a struct of zeros is refused with STATE by every other call. */
 static inline uint64_t barnsling_grid_new(struct barnsling_grid *g, size_t width, size_t height)
 {
-    g->width = width;
-    g->height = height;
-    g->settings = barnsling_new_settings();
-    g->dirty = 0;
-    return barnsling_new(
+    uint64_t v = barnsling_new(
         g->blocked, BARNSLING_CELLS, g->neighbours, BARNSLING_CELLS, g->forced, BARNSLING_CELLS,
         g->parent, BARNSLING_CELLS, g->rank, BARNSLING_CELLS, width, height);
+    if (!BARNSLING_REFUSED(v)) {
+        g->width = width;
+        g->height = height;
+        g->settings = barnsling_new_settings();
+        g->dirty = (uint8_t)v;
+    }
+    return v;
 }
 
-/* Blocks or frees a cell: a gate shuts or opens. Refuses POINT. */
+/* Blocks or frees a cell: a gate shuts or opens. Refuses POINT. An order that blocks a blocked cell can make a later yes false:
+   see GATES THAT REPEAT THEMSELVES, and barnsling_grid_gate. */
 static inline uint64_t barnsling_grid_set(struct barnsling_grid *g, int32_t x, int32_t y, int block)
 {
     uint64_t v = barnsling_set(
@@ -330,6 +362,23 @@ static inline uint64_t barnsling_grid_set(struct barnsling_grid *g, int32_t x, i
     if (!BARNSLING_REFUSED(v))
         g->dirty = (uint8_t)v;
     return v;
+}
+
+/* Whether a cell is blocked: 1 or 0. Refuses POINT. */
+static inline uint64_t barnsling_grid_blocked_at(const struct barnsling_grid *g, int32_t x, int32_t y)
+{
+    return barnsling_blocked_at(
+        g->blocked, BARNSLING_CELLS, g->parent, BARNSLING_CELLS, g->rank, BARNSLING_CELLS, g->width, g->height, x, y);
+}
+
+/* For a gate controller that may repeat itself: barnsling_grid_set, but a cell that is already as ordered is left alone. Answers
+   the dirty mark. Where every gate is told so, a yes is true whenever the grid is not dirty, and after every update. Refuses POINT. */
+static inline uint64_t barnsling_grid_gate(struct barnsling_grid *g, int32_t x, int32_t y, int block)
+{
+    uint64_t blocked = barnsling_grid_blocked_at(g, x, y);
+    if (BARNSLING_REFUSED(blocked))
+        return blocked;
+    return (blocked != 0) == (block != 0) ? g->dirty : barnsling_grid_set(g, x, y, block);
 }
 
 /* Builds the components anew: afterwards yes and no are both true. */
@@ -343,7 +392,7 @@ static inline uint64_t barnsling_grid_rebuild(struct barnsling_grid *g)
     return v;
 }
 
-/* The same, but only if the grid is dirty. */
+/* The same, but only if the grid is dirty; else it does nothing. */
 static inline uint64_t barnsling_grid_update(struct barnsling_grid *g)
 {
     uint64_t v = barnsling_update(

@@ -22,8 +22,8 @@ use Rattle.tables.specs.Tables.{Room, newOf, editOf}
 use Rattle.cells.specs.Cells.{Sides}
 use Rattle.cells.proofs.Cell.{sides-of}
 use Rattle.questions.specs.Questions.{reachableOf, neighboursReachableOf, neighboursUnreachableOf}
-use Rattle.packing.specs.Packing.{refusedAs, markOf}
-use Rattle.boundary.specs.Lent.{linksOk, coversOk, heldOf, roomyOf, groundOk, tables, left, marked, leftLinks, withLinks, newLent, setLent, rebuildLent, updateLent, componentLent, locatedOf, after, maskLent, prunedLent, askedOf, told, reachableLent, unreachableLent, nearLent, farLent}
+use Rattle.packing.specs.Packing.{flagOf, refusedAs, markOf}
+use Rattle.boundary.specs.Lent.{linksOk, coversOk, heldOf, roomyOf, groundOk, tables, left, marked, leftLinks, withLinks, newLent, setLent, rebuildLent, updateLent, componentLent, locatedOf, after, blockedLent, maskLent, prunedLent, askedOf, told, reachableLent, unreachableLent, nearLent, farLent}
 
 -- ---- choices whose tests are known
 
@@ -302,6 +302,10 @@ module _ (w h : ℕ) (e p k : List ℕ) (q : Point) where
     pub located-held : t ≡ 0 → Located
     located-held z = of-located (sym at-cell ∙ z)
 
+    pub blocked-refused : (t ≡ 0 → ⊥) → t ≡ blockedLent w h e p k q
+    unfolding blockedLent
+    blocked-refused z = after-no t (locatedOf w h e p k q) (markOf (flagOf (getD e (cellOf w h q) 0))) at-cell z
+
     pub mask-refused : (t ≡ 0 → ⊥) → t ≡ maskLent w h e p k q
     unfolding maskLent
     mask-refused z = after-no t (locatedOf w h e p k q) (getD e (cellOf w h q) 0) at-cell z
@@ -313,6 +317,10 @@ module _ (w h : ℕ) (e p k : List ℕ) (q : Point) where
     module _ (z : t ≡ 0) (i : ℕ) (ei : i ≡ cellOf w h qa) where
       spot : i ≡ cellOf w h q
       spot = ei ∙ ap (cellOf w h) eq
+
+      pub blocked-done : (b : Bool) (m : ℕ) → b ≡ flagOf (getD e i 0) → m ≡ markOf b → m ≡ blockedLent w h e p k q
+      unfolding blockedLent
+      blocked-done b m eb em = after-yes (locatedOf w h e p k q) m (markOf (flagOf (getD e (cellOf w h q) 0))) (sym at-cell ∙ z) (em ∙ ap markOf eb ∙ rw spot)
 
       pub mask-done : getD e i 0 ≡ maskLent w h e p k q
       unfolding maskLent

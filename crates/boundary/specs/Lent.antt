@@ -14,7 +14,7 @@ use Rattle.states.specs.States.{stateOk}
 use Rattle.cells.specs.Cells.{sizedOf, placeOf, cellOf}
 use Rattle.rebuilds.specs.Rebuilds.{rebuiltLinks}
 use Rattle.tables.specs.Tables.{Tables, newOf, editOf}
-use Rattle.packing.specs.Packing.{refusedAs, markOf}
+use Rattle.packing.specs.Packing.{flagOf, refusedAs, markOf}
 use Rattle.questions.specs.Questions.{reachableOf, neighboursReachableOf, neighboursUnreachableOf}
 
 -- ---- the tests
@@ -115,6 +115,14 @@ locatedOf w h e p k q = cond (groundOk w h e p k) (cond (ltb (cellOf w h q) (w *
 abbrev pub after : ℕ → ℕ → ℕ
 after t n = cond (eqb t 0) n t
 
+-- a refusal, or yes and no
+abbrev pub told : ℕ → Bool → ℕ
+told t b = after t (markOf b)
+
+-- whether the cell is blocked
+unfoldable pub blockedLent : ℕ → ℕ → List ℕ → List ℕ → List ℕ → Point → ℕ
+blockedLent w h b p k q = told (locatedOf w h b p k q) (flagOf (getD b (cellOf w h q) 0))
+
 -- the mask that a table holds of a cell, and the pruned mask for travel d, read modulo 8
 unfoldable pub maskLent : ℕ → ℕ → List ℕ → List ℕ → List ℕ → Point → ℕ
 maskLent w h e p k q = after (locatedOf w h e p k q) (getD e (cellOf w h q) 0)
@@ -128,10 +136,6 @@ askedOf w h p k start goal =
     cond (linksOk w h p k)
     (cond (legal start) (cond (legal goal) 0 (4294967296 * (toldOf (BadPoint goal) .number + 512))) (4294967296 * (toldOf (BadPoint start) .number + 256)))
     (refusedAs State)
-
--- a refusal, or yes and no
-abbrev pub told : ℕ → Bool → ℕ
-told t b = after t (markOf b)
 
 unfoldable pub reachableLent : ℕ → ℕ → List ℕ → List ℕ → Point → Point → ℕ
 reachableLent w h p k start goal = told (askedOf w h p k start goal) (reachableOf (w * h) p (cellOf w h start) (cellOf w h goal))

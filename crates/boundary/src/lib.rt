@@ -11,7 +11,7 @@ ghost use Rattle.finder.specs.Find.{ground, lengthsOf, answerOf, outAfter, sing
 ghost use Rattle.packing.specs.Packing.{flagOf, pointOf, headingPacked, measurePacked, settingsOf};
 ghost use Rattle.replies.specs.Replies.{routeOf};
 ghost use Rattle.boundary.specs.Searches.{singleLent, severalLent};
-ghost use Rattle.boundary.specs.Lent.{linksOk, groundOk, coversOk, heldOf, roomyOf, tables, left, leftLinks, newLent, setLent, rebuildLent, updateLent, componentLent, locatedOf, maskLent, prunedLent, askedOf, reachableLent, unreachableLent, nearLent, farLent};
+ghost use Rattle.boundary.specs.Lent.{linksOk, groundOk, coversOk, heldOf, roomyOf, tables, left, leftLinks, newLent, setLent, rebuildLent, updateLent, componentLent, locatedOf, blockedLent, maskLent, prunedLent, askedOf, reachableLent, unreachableLent, nearLent, farLent};
 use costs::Settings;
 use finder::Answer;
 use packing::direction;
@@ -29,6 +29,14 @@ use replies::routed;
 
 pub mod texts;
 pub mod walks;
+
+// The number of this interface, which the header and the Rust crate name too: it rises where a declaration, an answer's form or a refusal's number changes.
+#[no_mangle]
+pub extern "C" fn barnsling_version() -> u32
+    ensures { λ r. ⌜ r ≡ 2 ⌝ }
+{
+    2
+}
 
 // The forced mask of a neighbour mask.
 #[no_mangle]
@@ -311,6 +319,27 @@ fn mask_at(table: &[u8], parent: &[u16], rank: &[u8], w: usize, h: usize, p: Poi
     }
     let i = cells::cell_of(w, h, p);
     table[i] as u64
+}
+
+// Whether the cell (x, y) is blocked: 1 or 0. Refuses STATE, then POINT.
+#[no_mangle]
+pub extern "C" fn barnsling_blocked_at(
+    blocked: &[u8],
+    parent: &[u16],
+    rank: &[u8],
+    w: usize,
+    h: usize,
+    x: i32,
+    y: i32,
+) -> u64
+    ensures { λ r. ⌜ r ≡ blockedLent w h (now (blocked .entry)) (now (parent .entry)) (now (rank .entry)) (pointOf x y) ⌝ }
+{
+    let p = point(x, y);
+    let t = located(blocked, parent, rank, w, h, p);
+    if t != 0 {
+        return t;
+    }
+    mark(flag(blocked[cells::cell_of(w, h, p)]))
 }
 
 // Which neighbours of the cell (x, y) are inside and free, a bit for each direction: below 256. Refuses STATE, then POINT.

@@ -81,6 +81,7 @@ searches =
 hosts : Hosts
 hosts =
     record {
+      version = (λ κ a. tt, λ κ a r r′ e e′. equal);
       forced-mask = (λ κ a. tt, λ κ a r r′ e e′. equal);
       pruned-mask = (λ κ a. tt, λ κ a r r′ e e′. equal);
       direction = (λ κ a. tt, λ κ a r r′ e e′. equal);
@@ -91,6 +92,7 @@ hosts =
       rebuild = (λ κ a. tt, λ κ a r r′ e e′. equal);
       update = (λ κ a. tt, λ κ a r r′ e e′. equal);
       component = (λ κ a. tt, λ κ a r r′ e e′. equal);
+      blocked-at = (λ κ a. tt, λ κ a r r′ e e′. equal);
       neighbours-at = (λ κ a. tt, λ κ a r r′ e e′. equal);
       forced-at = (λ κ a. tt, λ κ a r r′ e e′. equal);
       pruned-at = (λ κ a. tt, λ κ a r r′ e e′. equal);

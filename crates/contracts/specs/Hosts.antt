@@ -1,6 +1,7 @@
 -- The calls for hosts: an answer, an answer with the lent tables, or an answer with a lent output. Assumes nothing: these are statements.
 use Rattle.boundary.specs.Lent.{left, leftLinks}
 use Rattle.contracts.specs.Allowed.{Free, One, OneWith, OneTold}
+use Rattle.boundary.proofs.barnsling_version.Reads as version
 use Rattle.boundary.proofs.barnsling_forced_mask.Reads as forced-mask
 use Rattle.boundary.proofs.barnsling_pruned_mask.Reads as pruned-mask
 use Rattle.boundary.proofs.barnsling_direction.Reads as direction
@@ -11,6 +12,7 @@ use Rattle.boundary.proofs.barnsling_set.Reads as set
 use Rattle.boundary.proofs.barnsling_rebuild.Reads as rebuild
 use Rattle.boundary.proofs.barnsling_update.Reads as update
 use Rattle.boundary.proofs.barnsling_component.Reads as component
+use Rattle.boundary.proofs.barnsling_blocked_at.Reads as blocked-at
 use Rattle.boundary.proofs.barnsling_neighbours_at.Reads as neighbours-at
 use Rattle.boundary.proofs.barnsling_forced_at.Reads as forced-at
 use Rattle.boundary.proofs.barnsling_pruned_at.Reads as pruned-at
@@ -25,6 +27,7 @@ use Rattle.boundary.proofs.walks.barnsling_check_route.Reads as check-route
 use Rattle.boundary.proofs.texts.barnsling_route_text.Reads as route-text
 
 pub record Hosts : Type 0 where
+  pub version : Free version.Asked × One version.Post
   pub forced-mask : Free forced-mask.Asked × One forced-mask.Post
   pub pruned-mask : Free pruned-mask.Asked × One pruned-mask.Post
   pub direction : Free direction.Asked × One direction.Post
@@ -36,6 +39,7 @@ pub record Hosts : Type 0 where
   pub rebuild : Free rebuild.Asked × OneTold rebuild.Post (λ κ r e. leftLinks r (e .1 .0 .now) (e .1 .1 .0 .now))
   pub update : Free update.Asked × OneTold update.Post (λ κ r e. leftLinks r (e .1 .0 .now) (e .1 .1 .0 .now))
   pub component : Free component.Asked × One component.Post
+  pub blocked-at : Free blocked-at.Asked × One blocked-at.Post
   pub neighbours-at : Free neighbours-at.Asked × One neighbours-at.Post
   pub forced-at : Free forced-at.Asked × One forced-at.Post
   pub pruned-at : Free pruned-at.Asked × One pruned-at.Post

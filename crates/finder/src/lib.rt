@@ -203,7 +203,7 @@ pub fn multiple_goals(
     if !start.legal() {
         return refused(Refusal::BadPoint(start));
     }
-    let q = goals::first_misplaced(goals, n);
+    let q = goals::first_misplaced(goals, n as usize);
     if let Misplaced::At(bad) = q {
         return refused(Refusal::BadPoint(bad));
     }

@@ -13,10 +13,11 @@ ghost use Rattle.goals.specs.Goals.{Numbered, Aimed, Legals, mostGoals, 
 const MOST_GOALS: usize = 64;
 
 // What a search looks for: one point, the neighbourhood of one point, or one of the first n points of a lent list of pairs.
+// The n of Several lies where the other kinds have their point's x, so that there is a number to be read there for each kind.
 pub enum Goal {
     Exact(Point),
     Near(Point),
-    Several(usize),
+    Several(u32),
 }
 
 // What stays the same in one search: the start, the goal, the sides, the number of the goal's cell (stops::goal_cell) and the settings. In this order no copy splits what is read after it.
@@ -31,7 +32,7 @@ pub struct Plan {
 
 // How many goals a list holds, or GOALS.
 pub enum Listed {
-    Goals(usize),
+    Goals(u32),
     Refused(Refusal),
 }
 
@@ -89,7 +90,8 @@ pub fn count_goals(goals: &[i32]) -> Listed
     if MOST_GOALS < n / 2 {
         return Listed::Refused(Refusal::Goals);
     }
-    Listed::Goals(n / 2)
+    let count = (n / 2) as u32;
+    Listed::Goals(count)
 }
 
 // The first of the first n goals that is out of range.
@@ -156,7 +158,7 @@ pub fn is_goal(goals: &[i32], p: Plan, at: Point) -> bool
     match goal {
         Goal::Exact(q) => same_point(at, q),
         Goal::Near(q) => costs::distance_between(p.settings.diagonal, at, q) <= 99,
-        Goal::Several(n) => among(goals, n, at),
+        Goal::Several(n) => among(goals, n as usize, at),
     }
 }
 
@@ -169,7 +171,7 @@ fn left(goals: &[i32], p: Plan, at: Point) -> u32
     match goal {
         Goal::Exact(q) => costs::distance_between(p.settings.diagonal, at, q),
         Goal::Near(q) => costs::distance_between(p.settings.diagonal, at, q),
-        Goal::Several(n) => least(goals, p.settings.diagonal, n, at),
+        Goal::Several(n) => least(goals, p.settings.diagonal, n as usize, at),
     }
 }
 

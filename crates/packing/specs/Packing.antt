@@ -1,5 +1,5 @@
--- How an answer crosses the boundary as one number: below 2^32 the value; else 2^32 times the refusal's number, with 256 more where it
--- concerns the first point and 512 more where it concerns the second. Assumes nothing: these are definitions.
+-- How an answer crosses the boundary as one number: below 2^32 the value; else 2^32 times the refusal's number. Where a call takes two points,
+-- POINT comes with 256 more if it is about the first and 512 more if it is about the second. Assumes nothing: these are definitions.
 use mathlib.Core.Bool.{Bool, true, false, cond, not}
 use Prim.Native.Nat.{ℕ, _+_, _*_}
 use lib.Dec.{eqb}
@@ -25,9 +25,9 @@ flagOf b = not (eqb b 0)
 abbrev pub pointOf : ℤ → ℤ → Point
 pointOf x y = record { x = x; y = y }
 
--- a refusal of a call on two points, of which a is the first
+-- a refusal of a call on two points, of which a is the first: POINT, 14, says which of them it is about
 abbrev pub refusedWith : Told → Point → ℕ
-refusedWith t a = cond (legal a) (4294967296 * (t .number + 512)) (4294967296 * (t .number + 256))
+refusedWith t a = cond (eqb (t .number) 14) (cond (legal a) (4294967296 * (t .number + 512)) (4294967296 * (t .number + 256))) (4294967296 * t .number)
 
 abbrev pub headingPacked : Heading → Point → ℕ
 headingPacked (Toward d) a = d .number

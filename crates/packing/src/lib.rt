@@ -1,5 +1,5 @@
 // Numbers for C and Rust: flags, points and settings made of them, and answers packed into them.
-// An answer of one number is below 2^32; a refusal is its number times 2^32, with 256 more where it concerns the first of two points, 512 more where the second.
+// An answer of one number is below 2^32; a refusal is its number times 2^32. Of a call on two points, POINT has 256 more where it is about the first, 512 more where about the second.
 ghost use mathlib.Core.Path.{_≡_};
 ghost use Rattle.headings.specs.Headings.{directionOf};
 ghost use Rattle.costs.specs.Cost.{distanceOf};
@@ -19,11 +19,14 @@ pub fn flag(b: u8) -> bool
     b != 0
 }
 
-// A refusal of a call on two points, of which a is the first.
+// A refusal of a call on two points, of which a is the first: POINT says which of them it is about.
 fn refused(t: Told, a: Point) -> u64
     ensures { λ r. ⌜ r ≡ refusedWith t a ⌝ }
 {
     let number = t.number as u64;
+    if number != 14 {
+        return 4294967296 * number;
+    }
     if a.legal() {
         return 4294967296 * (number + 512);
     }

@@ -47,6 +47,9 @@ refused-requires-3 c κs = search needs
 returns-3 : tie.Need-returns-3
 returns-3 c = let a = c .before .before .before .before .before .before .before .before .before .before .before .before .before .before .before .before .before .before in stopped _ _ _ _ (severalPlan (a .args .w) (a .args .h) (a .args .s) (a .args .start) (a .args .goals .now)) _ (c .refused3 .ensures) (several-start (ground (a .args .w) (a .args .h) (a .args .blocked .now) (a .args .neighbours .now) (a .args .forced .now)) (a .args .s) (lengthsOf (a .args .number .now) (a .args .place .now) (a .args .parent .now) (a .args .cost .now) (a .args .keys .now) (a .args .idx .now)) (a .args .start) (a .args .goals .now) (sym (c .before .before .before .before .before .before .before .before .ready .ensures) ∙ not-false _ (c .before .before .before .before .before .before .before .if1 .left)) _ (sym (c .before .before .before .before .c .given .1) ∙ c .before .before .before .before .before .before .count-goals .ensures) (sym (c .before .before .legal .ensures) ∙ not-true _ (c .before .if2 .taken)))
 
+cast-first-misplaced : tie.Need-cast-first-misplaced
+cast-first-misplaced c = search needs
+
 first-misplaced-requires : tie.Need-first-misplaced-requires
 first-misplaced-requires c κs = let a = c .before .before .before .before .before .before .before .before .before .before .before .before .before .before .before .before .before in count-is (length (a .args .goals .now)) _ (sym (c .before .before .before .c .given .1) ∙ c .before .before .before .before .before .count-goals .ensures) .1 .1
 
@@ -113,6 +116,7 @@ multiple-goals-spec =
     legal-requires
     refused-requires-3
     returns-3
+    cast-first-misplaced
     first-misplaced-requires
     enum-known-q
     refused-requires-4

@@ -25,6 +25,9 @@ distance-between-requires c κs =
 enum-known-goal-3 : tie.Need-enum-known-goal-3
 enum-known-goal-3 c = search needs
 
+cast-among : tie.Need-cast-among
+cast-among c = search needs
+
 among-requires : tie.Need-among-requires
 among-requires c κs =
     let s = c .before .before .before in
@@ -52,6 +55,7 @@ is-goal-spec =
     enum-known-goal-2
     distance-between-requires
     enum-known-goal-3
+    cast-among
     among-requires
     returns
     returns-2

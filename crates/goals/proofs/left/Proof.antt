@@ -25,6 +25,9 @@ distance-between-requires-2 c κs =
 enum-known-goal-3 : tie.Need-enum-known-goal-3
 enum-known-goal-3 c = search needs
 
+cast-least : tie.Need-cast-least
+cast-least c = search needs
+
 least-requires : tie.Need-least-requires
 least-requires c κs =
     let s = c .before .before .before in
@@ -52,6 +55,7 @@ left-spec =
     enum-known-goal-2
     distance-between-requires-2
     enum-known-goal-3
+    cast-least
     least-requires
     returns
     returns-2

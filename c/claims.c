@@ -1,0 +1,174 @@
+/*
+ * What barnsling.h claims beside the answers, tried on the archive: c/run builds and runs it.
+ *
+ * Empty slices may be null; a refusal writes nothing; which of two points is told for POINT alone; a controller that repeats its
+ * orders does no harm through barnsling_grid_gate; and no call takes more stack than the header says.
+ */
+#define _XOPEN_SOURCE 600
+#include "barnsling.h"
+#include <stdio.h>
+#include <string.h>
+#include <ucontext.h>
+
+static struct barnsling_grid grid;
+static struct barnsling_rooms rooms;
+static int claims, broken;
+
+static void claim(const char *what, int holds)
+{
+    claims++;
+    if (!holds) {
+        broken++;
+        printf("c/claims: does not hold: %s\n", what);
+    }
+}
+
+/* ---- Null with no entries ------------------------------------------------------------------------------------- */
+
+static int is(uint64_t v, int refusal)
+{
+    return BARNSLING_REFUSED(v) && BARNSLING_REFUSAL(v) == refusal;
+}
+
+static void null_tables(void)
+{
+    claim("new", is(barnsling_new(NULL, 0, NULL, 0, NULL, 0, NULL, 0, NULL, 0, 3, 3), BARNSLING_STATE));
+    claim("set", is(barnsling_set(NULL, 0, NULL, 0, NULL, 0, NULL, 0, NULL, 0, 3, 3, 1, 0, 0, 0, 1), BARNSLING_STATE));
+    claim("rebuild", is(barnsling_rebuild(NULL, 0, NULL, 0, NULL, 0, 3, 3, 1), BARNSLING_STATE));
+    claim("update", is(barnsling_update(NULL, 0, NULL, 0, NULL, 0, 3, 3, 1, 1), BARNSLING_STATE));
+    claim("component", is(barnsling_component(NULL, 0, NULL, 0, 3, 3, 0, 0), BARNSLING_STATE));
+    claim("reachable", is(barnsling_reachable(NULL, 0, NULL, 0, 3, 3, 0, 0, 1, 1), BARNSLING_STATE));
+    claim("unreachable", is(barnsling_unreachable(NULL, 0, NULL, 0, 3, 3, 0, 0, 1, 1), BARNSLING_STATE));
+    claim("near", is(barnsling_neighbours_reachable(NULL, 0, NULL, 0, 3, 3, 1, 0, 0, 1, 1), BARNSLING_STATE));
+    claim("far", is(barnsling_neighbours_unreachable(NULL, 0, NULL, 0, 3, 3, 1, 0, 0, 1, 1), BARNSLING_STATE));
+    claim("blocked_at", is(barnsling_blocked_at(NULL, 0, NULL, 0, NULL, 0, 3, 3, 0, 0), BARNSLING_STATE));
+    claim("neighbours_at", is(barnsling_neighbours_at(NULL, 0, NULL, 0, NULL, 0, 3, 3, 0, 0), BARNSLING_STATE));
+    claim("forced_at", is(barnsling_forced_at(NULL, 0, NULL, 0, NULL, 0, 3, 3, 0, 0), BARNSLING_STATE));
+    claim("pruned_at", is(barnsling_pruned_at(NULL, 0, NULL, 0, NULL, 0, 3, 3, 1, 0, 0, 0), BARNSLING_STATE));
+}
+
+/* Lists, texts and rooms of nothing. The rooms of a search are lent with a good grid, so that they are what is refused. */
+static void null_lists(void)
+{
+    int32_t two[] = {0, 0};
+    claim("path of no list", barnsling_waypoints_to_path(NULL, 0, rooms.out, BARNSLING_OUT).refusal == BARNSLING_LIST);
+    claim("path in no room", barnsling_waypoints_to_path(two, 2, NULL, 0).refusal == BARNSLING_ROOM);
+    claim("check of no list", barnsling_grid_check_route(&grid, NULL, 0).refusal == BARNSLING_LIST);
+    claim("text in no room", is(barnsling_route_text(NULL, 0, NULL, 0), BARNSLING_ROOM));
+    claim("no goals", barnsling_grid_multiple_goals(&grid, &rooms, 0, 0, NULL, 0).refusal == BARNSLING_GOALS);
+    claim("no room", barnsling_single_goal(grid.blocked, 4096, grid.neighbours, 4096, grid.forced, 4096, grid.parent, 4096, grid.rank, 4096,
+        NULL, 0, NULL, 0, NULL, 0, NULL, 0, NULL, 0, NULL, 0, NULL, 0, grid.width, grid.height, 1, 1, 1, 64, 65535, 8192,
+        0, 0, 0, 0, 0).refusal == BARNSLING_SETTING);
+}
+
+/* ---- Refusals and repeated orders ----------------------------------------------------------------------------- */
+
+static void refusals(void)
+{
+    static struct barnsling_grid before;
+    memcpy(&before, &grid, sizeof grid);
+    claim("a new grid of 65 by 3", is(barnsling_grid_new(&grid, 65, 3), BARNSLING_SIZE));
+    claim("a gate outside", is(barnsling_grid_gate(&grid, 64, 0, 1), BARNSLING_POINT));
+    claim("a cell outside", is(barnsling_grid_set(&grid, -1, 0, 1), BARNSLING_POINT));
+    claim("a refusal writes nothing", memcmp(&before, &grid, sizeof grid) == 0);
+    claim("SETTING tells of no point", barnsling_scaled_distance(17, 1, 0, 0, 1, 0) == (uint64_t)BARNSLING_SETTING << 32);
+    claim("SAME tells of no point", barnsling_direction(1, 1, 1, 1) == (uint64_t)BARNSLING_SAME << 32);
+    claim("the first point", BARNSLING_WHICH_POINT(barnsling_direction(1024, 0, 0, 0)) == 1);
+    claim("the second point", BARNSLING_WHICH_POINT(barnsling_direction(0, 0, 0, -1025)) == 2);
+    claim("the goal", BARNSLING_WHICH_POINT(barnsling_grid_reachable(&grid, 0, 0, 1024, 0)) == 2);
+}
+
+static void repeated_orders(void)
+{
+    static struct barnsling_grid hall;
+    barnsling_grid_new(&hall, 3, 1);
+    barnsling_grid_gate(&hall, 1, 0, 1);
+    barnsling_grid_rebuild(&hall);
+    barnsling_grid_gate(&hall, 1, 0, 1);
+    claim("a gate shut twice stays shut", hall.dirty == 0 && barnsling_grid_reachable(&hall, 0, 0, 2, 0) == 0);
+    barnsling_grid_gate(&hall, 1, 0, 0);
+    claim("and opens", barnsling_grid_blocked_at(&hall, 1, 0) == 0 && barnsling_grid_reachable(&hall, 0, 0, 2, 0) == 1);
+}
+
+/* ---- Stack ---------------------------------------------------------------------------------------------------- */
+
+static unsigned char stack[1 << 20];
+static ucontext_t here, there;
+static volatile uint64_t sum;
+
+/* How much of a stack of its own, painted before, a function writes. */
+static size_t stack_of(void (*run)(void))
+{
+    size_t i = 0;
+    memset(stack, 0xA5, sizeof stack);
+    getcontext(&there);
+    there.uc_stack.ss_sp = stack;
+    there.uc_stack.ss_size = sizeof stack;
+    there.uc_link = &here;
+    makecontext(&there, run, 0);
+    swapcontext(&here, &there);
+    while (i < sizeof stack && stack[i] == 0xA5)
+        i++;
+    return sizeof stack - i;
+}
+
+static void nothing(void) { sum += 1; }
+
+static void pruned_masks(void)
+{
+    int i;
+    for (i = 0; i < 16; i++)
+        sum += barnsling_pruned_mask((uint8_t)(i / 8), (uint8_t)i, 255) + barnsling_grid_pruned_at(&grid, 3, 3, (uint8_t)i);
+}
+
+static void small_calls(void)
+{
+    int32_t list[] = {0, 0, 63, 63, 0, 63};
+    int i;
+    sum += barnsling_forced_mask(1) + barnsling_direction(0, 0, 3, 1) + barnsling_scaled_distance(1.5f, 1, 0, 0, 3, 1);
+    for (i = 0; i < 4096; i++)
+        sum += barnsling_grid_set(&grid, i % 64, i / 64, i * 7919 % 5 == 0);
+    sum += barnsling_grid_rebuild(&grid) + barnsling_grid_neighbours_reachable(&grid, 0, 0, 63, 63);
+    sum += barnsling_grid_check_route(&grid, list, 6).value;
+    sum += barnsling_waypoints_to_path(list, 6, rooms.out, BARNSLING_OUT).value;
+}
+
+static void searches(void)
+{
+    static const int32_t goals[] = {63, 1, 1, 63};
+    int i;
+    for (i = 0; i < 64; i++) {
+        sum += barnsling_grid_single_goal(&grid, &rooms, i, i, 63 - i, 63).pops;
+        sum += barnsling_grid_multiple_goals(&grid, &rooms, i, 0, goals, 4).pops;
+    }
+}
+
+static void a_text(void)
+{
+    static const char text[] = "width=3\nheight=1\ndiagonal=1\nstart=0,0\ngoal=2,0\nrow=...\n";
+    static uint8_t printed[BARNSLING_TEXT_ROOM];
+    sum += barnsling_route_text((const uint8_t *)text, sizeof text - 1, printed, sizeof printed);
+}
+
+static void stacks(void)
+{
+    size_t none = stack_of(nothing);
+    claim("the pruned masks take 2.3 kB", stack_of(pruned_masks) - none <= 2300);
+    claim("a search takes at most 90 kB", stack_of(searches) - none <= 90000);
+    claim("other calls take less than 1 kB", stack_of(small_calls) - none < 1000);
+    claim("a text takes at most 512 kB", stack_of(a_text) - none <= 512000);
+}
+
+int main(void)
+{
+    claim("the archive is of the header's version", barnsling_version() == BARNSLING_VERSION);
+    barnsling_grid_new(&grid, 64, 64);
+    barnsling_grid_rebuild(&grid);
+    null_tables();
+    null_lists();
+    refusals();
+    repeated_orders();
+    stacks();
+    printf("c/claims: %d of the header's claims tried, %d broken\n", claims, broken);
+    return broken != 0;
+}
