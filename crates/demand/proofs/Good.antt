@@ -1,7 +1,7 @@
 -- What every grid that the calls make has: room, right masks, and a light forest. Assumes nothing.
 use mathlib.Core.Path.{_≡_, refl}
 use mathlib.Core.Bool.{Bool, true, false, not, cond}
-use mathlib.Core.List.{List, [], _∷_}
+use mathlib.Core.List.{List}
 use Prim.Native.Nat.{ℕ, _+_, _-_, _*_, _^_, _≤_, _<_}
 use native.Mathlib.Omega.{arith}
 use lib.ListN.{length, getD, length-set}
@@ -17,7 +17,6 @@ use Rattle.refresh.specs.Refresh.{blocks}
 use Rattle.joins.specs.Joins.{around, joinedTo}
 use Rattle.joins.proofs.Joins.{Held, held-joined}
 use Rattle.rebuilds.proofs.Rebuilds.{held-columns, held-singles}
-use Rattle.demand.proofs.Runs.{Call, edit, rebuild, update, afterCalls}
 use Rattle.demand.proofs.Masks.{Follows, forced-kept, right-small, length-masks, length-forced, fill-follows, edit-right}
 
 pub record Good (m w h : ℕ) (t : Tables) : Type 0 where
@@ -137,9 +136,3 @@ module _ {m : ℕ} (w h : ℕ) (small : m ≤ 254) where
           rank = omega (arith, length-fillTo (λ i. 0) (t .rank) (w * h), R .rank);
         })
         (λ i hi. get-fillTo (λ i. 0) (t .rank) (w * h) i hi (R .rank))
-
-    pub good-calls : (t : Tables) (cs : List (Call w h)) → Good m w h t → Good m w h (afterCalls w h t cs)
-    good-calls t [] G = G
-    good-calls t (edit d e ∷ cs) G = good-calls _ cs (good-edit d t (e .x) (e .y) (e .blocked) (e .left) (e .down) G)
-    good-calls t (rebuild d ∷ cs) G = good-calls _ cs (good-rebuild d t G)
-    good-calls t (update d ∷ cs) G = good-calls _ cs (good-update d t G)

@@ -1,33 +1,30 @@
 -- The demand on grids by value: a grid that the calls made, from a new one or from one that was read, is the grid of tables that the calls on tables made, and no call refuses its state.
 -- Assumes nothing.
 use mathlib.Core.Path.{_≡_, refl, sym, ap, subst, _∙_}
-use mathlib.Core.Bool.{Bool, true, false, true≢false, not}
+use mathlib.Core.Bool.{Bool, true, not}
 use mathlib.Core.List.{List, [], _∷_}
 use Prim.Native.Nat.{ℕ, suc, _+_, _*_, _≤_, _<_}
 use native.Mathlib.Omega.{arith}
 use native.Mathlib.Decide.{decLe}
-use borrow.Author.Tests.{lt-ltb, eq-eqb}
 use Rattle.points.specs.declared.Point.{Point}
 use Rattle.masks.specs.Masks.{forcedOf}
-use Rattle.components.specs.Components.{Same, rootOf}
 use Rattle.components.proofs.Loops.{and-true}
 use Rattle.cells.specs.Cells.{sizedOf, placeOf, cellOf}
 use Rattle.fills.specs.Fills.{MasksRight}
-use Rattle.cells.proofs.Cell.{cell-lt, of-inside, places}
+use Rattle.cells.proofs.Cell.{cell-lt, places}
 use Rattle.rebuilds.specs.Rebuilds.{mostRank}
 use Rattle.tables.specs.Tables.{Tables, editOf, rebuildOf, updateOf}
 use Rattle.rebuilds.proofs.Rebuilds.{fits}
-use Rattle.questions.specs.Questions.{reachableOf, rootedOf}
 use Rattle.grid.specs.declared.Grid.{Grid}
 use Rattle.grid.specs.declared.Outcome.{Outcome}
 use Rattle.grid.specs.declared.Outcome.the-variants.{Done, Refused}
 use Rattle.grid.specs.declared.Change.{Change}
-use Rattle.grid.specs.declared.Verdict.the-variants.{No}
-use Rattle.grid.specs.Grids.{gridOf, legalOf, cellIn, locatedOf, askedOf, changed, editGrid, setOutcome, rebuildGrid, updateGrid, rebuildOutcome, updateOutcome}
-use Rattle.grid.specs.Questions.{verdictAfter, reachableFrom}
+use Rattle.grid.specs.Grids.{gridOf, legalOf, cellIn, statedOf, locatedOf, changed, editGrid, setOutcome, rebuildGrid, updateGrid, rebuildOutcome, updateOutcome}
 use Rattle.grid.proofs.Tests.{legal-of, located-in, stated-yes, done-located}
-use Rattle.grid.proofs.Calls.{set-done, rebuild-done, update-done}
-use Rattle.demand.specs.Demand3.{Begin, begun, Call, set, rebuild, update, called, after, Edit, afterEdits, noneBlocks, componentIn, Share, ForcedRight, Clauses, edited, Demand3, point, NoWalk, NoIsTrue, Made, NeverRefused}
+use Rattle.grid.proofs.Calls.{set-done, rebuild-done, update-done, update-dirty}
+use Rattle.demand.specs.Calls.{Begin, begun, Call, set, rebuild, update, called, after, Rebuilt, generated, updated, Edit, afterEdits}
+use Rattle.demand.specs.Demand3.{noneBlocks, componentIn, Share, ForcedRight, Clauses, Demand3}
+use Rattle.demand.specs.States.{Made, NeverRefused}
 use Rattle.demand.proofs.Runs as Runs
 use Rattle.demand.proofs.Good.{Good, good-edit, good-rebuild, good-update}
 use Rattle.demand.proofs.Starts.{sides, start}
@@ -43,15 +40,11 @@ refused-set g d p b l = go (locatedOf g p) (λ e. omega (arith, done-located g p
     go Done n = absurd (n refl)
     go (Refused r) n = refl
 
--- an answer of no, and cells that share a component
-said-no : (o : Outcome) (t : Bool) → verdictAfter o t ≡ No → t ≡ false
-said-no Done true e = let z : _≡_ {A = ℕ} 0 1 = cc in absurd (omega arith)
-said-no Done false e = refl
-said-no (Refused r) t e = let z : _≡_ {A = ℕ} 0 1 = cc in absurd (omega arith)
-
-says-yes : (n : ℕ) (p : List ℕ) (a c : ℕ) → a < n → c < n → Same p a c → reachableOf n p a c ≡ true
-unfolding reachableOf rootedOf
-says-yes n p a c ha hc e = rw (lt-ltb a n ha, lt-ltb c n hc, eq-eqb (rootOf p a) (rootOf p c) e)
+-- `update` of a dirty grid is the same as `generate_components`
+one-rebuild : (d : Bool) (g r : Grid) → Rebuilt d g r → r ≡ rebuildOutcome g d .grid
+unfolding rebuildOutcome updateOutcome
+one-rebuild d g r generated = refl
+one-rebuild d g r (updated e) = ap (λ (n : Grid). changed (statedOf g) g n .grid) (sym (update-dirty g d e))
 
 module _ (w h : ℕ) (ok : sizedOf w h ≡ true) where
   legal-is : (t : Tables) → Good mostRank w h t → legalOf (gridOf w h t) ≡ true
@@ -149,10 +142,10 @@ module _ (w h : ℕ) (ok : sizedOf w h ≡ true) where
       }
 
   -- an edited grid is the grid of tables that have the clauses
-  record Told (d : Bool) (es : List Edit) (g : Grid) : Type 0 where
-    tables : Tables
-    is : g ≡ gridOf w h tables
-    clauses : Clauses componentIn w h d es (gridOf w h tables)
+  pub record Told (d : Bool) (es : List Edit) (g : Grid) : Type 0 where
+    pub tables : Tables
+    pub is : g ≡ gridOf w h tables
+    pub clauses : Clauses componentIn w h d es (gridOf w h tables)
 
   told : (g : Grid) → Rep g → (d : Bool) (es : List Edit) → Told d es (afterEdits d (rebuildOutcome g d .grid) es)
   told g r d es =
@@ -167,19 +160,6 @@ module _ (w h : ℕ) (ok : sizedOf w h ≡ true) where
             (Theorem.clauses {m = mostRank} w h (omega arith) d (fits (sides w h ok)) t (r .good) (accepted es));
       }
 
-  -- a cell that is a point
-  pub at-point : (x y : ℕ) → x < w → y < h → cellOf w h (point x y) ≡ y * w + x
-  at-point x y hx hy = sym (of-inside w h (point x y) x y (rw (lt-ltb x w hx)) (rw (lt-ltb y h hy)) hx hy)
-
-  no-walk : (d : Bool) (es : List Edit) (t : Tables) → Clauses componentIn w h d es (gridOf w h t) → (x y i j : ℕ) → NoWalk w h d x y i j (gridOf w h t)
-  unfolding reachableFrom
-  no-walk d es t C x y i j f k e p =
-      let a = cell-lt w h x y (f .left) (f .down) in
-      let c = cell-lt w h i j (k .left) (k .down) in
-      let n = said-no (askedOf (gridOf w h t) (point x y) (point i j)) _ e in
-      let m = rw (at-point x y (f .left) (f .down), at-point i j (k .left) (k .down)) at n in
-      true≢false (sym (says-yes (w * h) (t .parent) (y * w + x) (j * w + i) a c (C .joined _ _ p)) ∙ m)
-
 -- a grid that the calls made
 rep : (s : Begin) (cs : List Call) → Rep (begun s .width) (begun s .height) (start s .ok) (after (begun s) cs)
 rep s cs =
@@ -188,18 +168,16 @@ rep s cs =
     let h = begun s .height in
     subst (λ (g : Grid). Rep w h (b .ok) (after g cs)) (sym (b .is)) (rep-calls w h (b .ok) cs (b .tables) (b .good))
 
-made : (s : Begin) (cs : List Call) (d : Bool) (es : List Edit) → Told (begun s .width) (begun s .height) (start s .ok) d es (edited s cs d es)
-made s cs d es = told (begun s .width) (begun s .height) (start s .ok) (after (begun s) cs) (rep s cs) d es
-
-pub demand3 : Demand3
-demand3 s cs d es = let r = made s cs d es in subst (Clauses componentIn (begun s .width) (begun s .height) d es) (sym (r .is)) (r .clauses)
-
-pub no-is-true : NoIsTrue
-no-is-true s cs d es x y i j =
+pub made : (s : Begin) (cs : List Call) (d : Bool) (g : Grid) → Rebuilt d (after (begun s) cs) g → (es : List Edit)
+    → Told (begun s .width) (begun s .height) (start s .ok) d es (afterEdits d g es)
+made s cs d g b es =
     let w = begun s .width in
     let h = begun s .height in
-    let r = made s cs d es in
-    subst (NoWalk w h d x y i j) (sym (r .is)) (no-walk w h (start s .ok) d es (r .tables) (r .clauses) x y i j)
+    subst (λ (r : Grid). Told w h (start s .ok) d es (afterEdits d r es)) (sym (one-rebuild d (after (begun s) cs) g b))
+    (told w h (start s .ok) (after (begun s) cs) (rep s cs) d es)
+
+pub demand3 : Demand3
+demand3 s cs d g b es = let r = made s cs d g b es in subst (Clauses componentIn (begun s .width) (begun s .height) d es) (sym (r .is)) (r .clauses)
 
 pub never-refused : NeverRefused
 unfolding ForcedRight MasksRight Follows

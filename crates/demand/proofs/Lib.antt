@@ -7,5 +7,6 @@ pub mod Good
 pub mod Starts
 pub mod Theorem
 pub mod Grids
+pub mod Nos
 pub mod Shuts
 pub mod Ranks

@@ -1,11 +1,11 @@
--- Runs of the calls on tables: what is proved of them, and what the demand on grids is drawn from. Assumes nothing.
+-- Runs of edits of tables: what is proved of them, and what the demand on grids is drawn from. Assumes nothing.
 use mathlib.Core.Path.{_≡_}
 use mathlib.Core.Bool.{Bool, true, not, _&&_}
 use mathlib.Core.List.{List, [], _∷_}
 use Prim.Native.Nat.{ℕ, _*_, _<_}
 use Rattle.components.specs.Components.{Same}
 use Rattle.fills.specs.Fills.{MasksRight}
-use Rattle.tables.specs.Tables.{Tables, editOf, rebuildOf, updateOf}
+use Rattle.tables.specs.Tables.{Tables, editOf}
 use Rattle.demand.specs.Walks.{Walk}
 use Rattle.demand.specs.Demand3.{ForcedRight}
 
@@ -17,25 +17,10 @@ pub record Edit (w h : ℕ) : Type 0 where
   pub down : y < h
   pub blocked : Bool
 
--- the calls that change the tables, each with the diagonal setting it reads
-pub data Call (w h : ℕ) : Type 0 where
-  edit : Bool → Edit w h → Call w h
-  rebuild : Bool → Call w h
-  update : Bool → Call w h
-
 abbrev pub edited : (w h : ℕ) → Bool → Tables → Edit w h → Tables
 edited w h diagonal t e = editOf w h diagonal t (e .x) (e .y) (e .blocked)
 
-abbrev pub called : (w h : ℕ) → Tables → Call w h → Tables
-called w h t (edit diagonal e) = edited w h diagonal t e
-called w h t (rebuild diagonal) = rebuildOf w h diagonal t
-called w h t (update diagonal) = updateOf w h diagonal t
-
--- after a list of calls, and after a list of edits under one setting, the first first
-abbrev pub afterCalls : (w h : ℕ) → Tables → List (Call w h) → Tables
-afterCalls w h t [] = t
-afterCalls w h t (c ∷ cs) = afterCalls w h (called w h t c) cs
-
+-- after a list of edits under one setting, the first first
 abbrev pub afterEdits : (w h : ℕ) → Bool → Tables → List (Edit w h) → Tables
 afterEdits w h diagonal t [] = t
 afterEdits w h diagonal t (e ∷ es) = afterEdits w h diagonal (edited w h diagonal t e) es

@@ -1,4 +1,5 @@
--- What the demand shuts out: one component for all, by a 3 by 1 grid with its middle blocked, and singletons for all, by a free 2 by 1 grid.
+-- What the demand shuts out: one component for all and walks through a blocked cell, by a 3 by 1 grid with its middle blocked, and singletons for all,
+-- by a free 2 by 1 grid.
 -- Assumes nothing.
 use mathlib.Core.Path.{_≡_, refl, sym, ap, subst, _∙_}
 use mathlib.Core.Logic.{inl}
@@ -18,11 +19,14 @@ use Rattle.grid.specs.declared.Grid.{Grid}
 use Rattle.grid.specs.declared.Change.{Change}
 use Rattle.grid.specs.declared.Outcome.the-variants.{Done, Refused}
 use Rattle.grid.specs.Grids.{newGrid, newOutcome, rebuildOutcome, zeros, empty}
-use Rattle.demand.specs.Walks.{Free, Walk, stay, move}
-use Rattle.demand.specs.Demand3.{new, begun, Call, after, Edit, afterEdits, Clauses, DemandOf, point, OneForAll, Singletons}
-use Rattle.demand.specs.Demand3 as Spec
+use Rattle.demand.specs.Walks.{Free, Walk, stay, move, NotThrough}
+use Rattle.demand.specs.Calls.{new, begun, Call, after, generated, Edit, afterEdits}
+use Rattle.demand.specs.Calls as Calls
+use Rattle.demand.specs.Nos.{point}
+use Rattle.demand.specs.Demand3.{Clauses, DemandOf, OneForAll, Singletons}
 use Rattle.demand.proofs.Starts.{good-empty}
-use Rattle.demand.proofs.Grids.{edit-is, edit-good, rebuilt-is, at-point}
+use Rattle.demand.proofs.Grids.{edit-is, edit-good, rebuilt-is}
+use Rattle.demand.proofs.Nos.{at-point}
 
 -- the demand on a new grid whose sides are in range
 new-is : (w h : ℕ) → sizedOf w h ≡ true → begun (new w h) ≡ newGrid w h
@@ -35,7 +39,7 @@ rebuilt d cs g = rebuildOutcome (after g cs) d .grid
 of-new : (component : Grid → ℕ → ℕ) → DemandOf component → (w h : ℕ) → sizedOf w h ≡ true → (cs : List Call) (d : Bool) (es : List Edit)
     → Clauses component w h d es (afterEdits d (rebuilt d cs (newGrid w h)) es)
 unfolding newGrid
-of-new component D w h ok cs d es = subst (λ (g : Grid). Clauses component (g .width) (g .height) d es (afterEdits d (rebuilt d cs g) es)) (new-is w h ok) (D (new w h) cs d es)
+of-new component D w h ok cs d es = subst (λ (g : Grid). Clauses component (g .width) (g .height) d es (afterEdits d (rebuilt d cs g) es)) (new-is w h ok) (D (new w h) cs d (rebuilt d cs (begun (new w h))) generated es)
 
 two : sizedOf 2 1 ≡ true
 unfolding sizedOf
@@ -83,17 +87,17 @@ singletons D =
 
 -- 3x1 `.#.`, rebuilt
 cut : List Call
-cut = Spec.set true (point 1 0) true ∷ []
+cut = Calls.set true (point 1 0) true ∷ []
 
 walled : rebuilt true cut (newGrid 3 1) .blocked ≡ set (newBlocked 3 1 zeros) 1 1
 unfolding cut newGrid rebuildOf newOf editOf
 walled =
     let G = good-empty 3 1 three in
-    let l : cellOf 3 1 (point 1 0) < 3 * 1 = omega (arith, at-point 3 1 three 1 0 (omega arith) (omega arith)) in
+    let l : cellOf 3 1 (point 1 0) < 3 * 1 = omega (arith, at-point 3 1 1 0 (omega arith) (omega arith)) in
     ap (λ (g : Grid). rebuildOutcome g true .grid .blocked) (edit-is 3 1 three true (point 1 0) true (newOf 3 1 empty) G l)
     ∙ ap (λ (g : Grid). g .blocked) (rebuilt-is 3 1 three true (editOf 3 1 true (newOf 3 1 empty) 1 0 true) (edit-good 3 1 three true (point 1 0) true (newOf 3 1 empty) G l))
 
--- a walk from its left end stays there
+-- a walk from the left end of `.#.` stays there
 stuck : (l : List ℕ) → getD l 1 0 ≡ 1 → {c : ℕ} → Walk 3 1 l true 0 c → c ≡ 0
 stuck l e stay = refl
 stuck l e (move {b = a} {c = c} p m) = go (stuck l e p) (ℕ-discrete (m .i) 1)
@@ -103,6 +107,9 @@ stuck l e (move {b = a} {c = c} p m) = go (stuck l e p) (ℕ-discrete (m .i) 1)
         let r : m .j * 3 + m .i ≡ 1 = omega (arith, m .enters .down) in
         absurd (omega (arith, ap (λ (n : ℕ). getD l n 0) r, m .enters .free))
     go b (no n) = omega (arith, m .from, m .to, m .enters .down, m .step .across .0)
+
+pub not-through : NotThrough
+not-through c p = stuck (0 ∷ 1 ∷ 0 ∷ []) refl p
 
 pub one-for-all : OneForAll
 unfolding cut

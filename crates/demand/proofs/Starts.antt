@@ -26,7 +26,7 @@ use Rattle.maps.specs.declared.Reading.{Reading}
 use Rattle.maps.specs.declared.Reading.the-variants.{Map, Bad}
 use Rattle.floors.specs.Floors.{floorGrid, readAs, readOf}
 use Rattle.floors.proofs.Laws.{map-fair}
-use Rattle.demand.specs.Demand3.{Begin, new, read, begun}
+use Rattle.demand.specs.Calls.{Begin, new, read, begun}
 use Rattle.demand.proofs.Good.{Good, filled, good-filled, good-new}
 
 -- g has sides in range, and is the grid of good tables

@@ -1,2 +1,5 @@
 pub mod Walks
+pub mod Calls
+pub mod Nos
 pub mod Demand3
+pub mod States

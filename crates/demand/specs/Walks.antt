@@ -2,7 +2,7 @@
 use mathlib.Core.Path.{_≡_}
 use mathlib.Core.Logic.{_⊎_}
 use mathlib.Core.Bool.{Bool, true}
-use mathlib.Core.List.{List}
+use mathlib.Core.List.{List, [], _∷_}
 use Prim.Native.Nat.{ℕ, _+_, _*_, _≤_, _<_}
 use lib.ListN.{getD}
 
@@ -34,3 +34,7 @@ pub record Move (w h : ℕ) (blocked : List ℕ) (diagonal : Bool) (a c : ℕ) :
 pub data Walk (w h : ℕ) (blocked : List ℕ) (diagonal : Bool) : ℕ → ℕ → Type 0 where
   stay : {a : ℕ} → Walk w h blocked diagonal a a
   move : {a b c : ℕ} → Walk w h blocked diagonal a b → Move w h blocked diagonal b c → Walk w h blocked diagonal a c
+
+-- what it does not do: enter a blocked cell, as from the left end of `.#.`
+abbrev pub NotThrough : Type 0
+NotThrough = (c : ℕ) → Walk 3 1 (0 ∷ 1 ∷ 0 ∷ []) true 0 c → c ≡ 0
