@@ -13,10 +13,10 @@
  * questions may follow at once: nothing is rebuilt. When there is time, barnsling_update builds the tables again if a gate has
  * shut since, and after it a yes is true too.
  *
- * GATES THAT REPEAT THEMSELVES. A yes is true after barnsling_update only if no order since the last rebuild blocked a cell that was
- * blocked already. Such an order joins the cell's free neighbours in the tables, as if the gate were open, and leaves the dirty mark
- * as it was. So a yes may be false on a grid that is not dirty: barnsling_update does nothing there, and a search ends in EXHAUSTED;
- * barnsling_rebuild heals it. A controller that repeats its orders asks barnsling_blocked_at first, and leaves a cell alone that is
+ * GATES THAT REPEAT THEMSELVES. On a grid that is not dirty a yes is true, unless an order since the last rebuild blocked a cell that
+ * was blocked already. Such an order joins the cell's free neighbours in the tables, as if the gate were open, and leaves the dirty mark
+ * as it was. The yes is then false, barnsling_update does nothing about it, and a search ends in EXHAUSTED; barnsling_rebuild heals
+ * it. A controller that repeats its orders asks barnsling_blocked_at first, and leaves a cell alone that is
  * already as ordered; barnsling_grid_gate, below, does just that. A no is true all the same.
  *
  * MEMORY. You own all of it and lend it for one call. Nothing is kept between calls; nothing is allocated; there are no
@@ -25,8 +25,8 @@
  * and what a call writes must not overlap anything else lent to that call. This is all that you owe: every call tests the rest, and a
  * table that is too short or holds nonsense is refused by name.
  *
- * COST. A call that is lent tables tests every cell of them first: TESTTIME at 64 by 64. A question and an edit take little
- * more, a rebuild some REBUILDTIME, a search SEARCHTIME (one machine; docs/PERFORMANCE.md has the figures).
+ * COST. A call that is lent tables tests every cell of them first, 1 to 3 microseconds at 64 by 64 on the machine of
+ * docs/PERFORMANCE.md. A question or an edit takes little more; a rebuild takes some 20 to 60, a search 4 to 75.
  *
  * STACK. A search takes about 5 kB and up to 1.3 kB more for each level of its depth limit: by its frames at most 90 kB (63 kB was the
  * most seen). barnsling_route_text keeps a grid and working room there too, some 340 kB: give it 512 kB. The pruned masks take 2.3 kB,
