@@ -35,6 +35,7 @@ impl Grid {
     /// assert!(Grid::new(64, 64).is_ok());
     /// assert_eq!(Grid::new(64, 0), Err(Refusal::Size));
     /// ```
+    #[track_caller]
     pub fn new(width: usize, height: usize) -> Result<Grid, Refusal> {
         let mut tables = Tables::room(width, height);
         lent::new(tables.cells_mut())?;
@@ -50,6 +51,7 @@ impl Grid {
     /// let floor = Grid::from_tables(Tables::default());
     /// assert_eq!(floor.component(Point::new(0, 0)), Err(Refusal::State));
     /// ```
+    #[track_caller]
     pub fn from_tables(tables: Tables) -> Grid {
         same_version(raw::version());
         Grid {

@@ -75,6 +75,11 @@ pub use settings::{Limits, Settings};
 pub use tables::Tables;
 pub use walks::{route_text, waypoints_to_path};
 
+/// The README's example is compiled as a test.
+#[cfg(doctest)]
+#[doc = include_str!("../README.md")]
+struct Readme;
+
 /// The longest side of a grid.
 ///
 /// ```

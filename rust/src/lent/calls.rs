@@ -20,6 +20,7 @@ use crate::{Point, Refusal};
 /// t.width = 65;
 /// assert_eq!(lent::new(t.cells_mut()), Err(Refusal::Size));
 /// ```
+#[track_caller]
 pub fn new(t: CellsMut<'_>) -> Result<(), Refusal> {
     same_version(raw::version());
     plain(raw::new(t)).map(|_| ())

@@ -50,6 +50,7 @@ pub fn found(a: Answer) -> Result<Found, SearchError> {
 }
 
 /// Stops with a sentence where an archive's version is not the one that this crate is written for.
+#[track_caller]
 pub fn same_version(archive: u32) {
     assert!(
         archive == VERSION,
