@@ -16,6 +16,14 @@ pub fn at(p: Point) -> barnsling::Point {
     barnsling::Point::new(p.x, p.y)
 }
 
+/// A length that is too short where so many are needed: as a rule by one.
+pub fn fewer(need: usize, r: &mut Rng) -> usize {
+    match r.pct(60) {
+        true => need - 1,
+        false => r.below(need as u64) as usize,
+    }
+}
+
 /// Guard entries past every table and room.
 const GUARD: usize = 4;
 

@@ -1,6 +1,6 @@
 //! Searches: exact, approximate and several goals; result, pops, cost, waypoints and the untouched rest of the output compared.
 //! The working room is lent as large as may be, exactly as needed, or too short.
-use crate::lent::{Lengths, Lent, Rooms, LARGEST_ROOMS};
+use crate::lent::{fewer, Lengths, Lent, Rooms, LARGEST_ROOMS};
 use crate::Tally;
 use barnsling::raw;
 use grid_util::grid::ValueGrid;
@@ -151,47 +151,26 @@ fn by_calls(m: &Map, r: &mut Rng) -> (Both, Lent) {
 
 /// What a search needs of each working room: the cells and one more, or the fringe limit.
 fn needs(ours: &Lent, a: &Ask) -> [usize; 6] {
-    let places = ours.w * ours.h + 1;
-    let mut needs = [
-        places,
-        places,
-        places,
-        places,
-        a.limits.fringe,
-        a.limits.fringe,
-    ];
-    for (need, most) in needs.iter_mut().zip(LARGEST_ROOMS) {
-        // more is refused before the rooms are looked at
-        *need = most.min(*need);
-    }
-    needs
+    // a grid or a limit that would need more is refused whatever is lent
+    let places = (ours.w * ours.h + 1).min(LARGEST_ROOMS[0]);
+    let fringe = a.limits.fringe.min(LARGEST_ROOMS[5]);
+    [places, places, places, places, fringe, fringe]
 }
 /// Half the time the largest rooms, else what is needed or some more; of one search in ten one room is too short.
 fn any_lengths(needs: [usize; 6], a: &Ask, r: &mut Rng) -> Lengths {
     let mut rooms = LARGEST_ROOMS;
     if r.pct(50) {
         for (length, need) in rooms.iter_mut().zip(needs) {
-            let more = (*length - need) as u64;
-            *length = need
-                + if r.pct(70) {
-                    0
-                } else {
-                    r.below(more + 1) as usize
-                };
+            let more = r.below((*length - need) as u64 + 1) as usize;
+            *length = if r.pct(70) { need } else { need + more };
         }
     }
-    let (k, one_less) = (r.below(6) as usize, r.pct(70));
+    let k = r.below(6) as usize;
     if r.pct(10) && needs[k] > 0 {
-        rooms[k] = if one_less {
-            needs[k] - 1
-        } else {
-            r.below(needs[k] as u64) as usize
-        };
+        rooms[k] = fewer(needs[k], r);
     }
-    Lengths {
-        rooms,
-        out: 2 * a.room + r.below(2) as usize,
-    }
+    let out = 2 * a.room + r.below(2) as usize;
+    Lengths { rooms, out }
 }
 /// SETTING, as the judge tells it.
 fn too_short() -> Answer {
@@ -277,10 +256,12 @@ pub fn searches(t: &mut Tally, r: &mut Rng) {
             };
             ask(t, &mut both, &ours, &mut rooms, &first, r);
         }
+        let before = ours.tables();
         for _ in 0..count {
             let a = any_ask(&both, w, h, r);
             ask(t, &mut both, &ours, &mut rooms, &a, r);
         }
+        t.hold(&before, &ours.tables(), || format!("written {before:?}"));
         ours.guards_hold();
     }
 }

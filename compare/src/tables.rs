@@ -1,5 +1,5 @@
 //! Tables: runs of new, set, update and rebuild on lent tables, all of them compared after every step, and the questions.
-use crate::lent::{Lent, POINT, SIZE, STATE};
+use crate::lent::{fewer, Lent, POINT, SIZE, STATE};
 use crate::Tally;
 use grid_util::point::Point;
 use tools::judge::{in_range, Both};
@@ -165,18 +165,10 @@ pub fn refusals(t: &mut Tally, r: &mut Rng) {
     while t.more() {
         if r.pct(40) {
             let tables = any_tables(6, r);
-            let n = tables.w * tables.h;
             let k = r.below(5);
             let mut ours = Lent::of_tables(&tables);
             ours.lengthen(r);
-            ours.shorten(
-                k as usize,
-                if r.pct(50) {
-                    n - 1
-                } else {
-                    r.below(n as u64) as usize
-                },
-            );
+            ours.shorten(k as usize, fewer(tables.blocked.len(), r));
             refused(t, ours, k >= 3, r, &format!("{tables:?} short {k}"), k);
         } else {
             let tables = illegal_tables(6, r);

@@ -1,5 +1,5 @@
 //! Paths, route checks, map texts and what the tables hold of a cell. The path is the Rust's; the check, the text's form and the refusals are document 01's.
-use crate::lent::{at, Lent, POINT, STATE};
+use crate::lent::{at, fewer, Lent, POINT, STATE};
 use crate::Tally;
 use barnsling::lent::TEXT_ROOM;
 use barnsling::raw::{self, Reply};
@@ -74,15 +74,7 @@ fn some_tables(r: &mut Rng, tables_read: &[usize]) -> (Tables, Lent, bool) {
     ours.lengthen(r);
     let k = r.below(50) as usize;
     if k < 5 {
-        let n = tables.blocked.len();
-        ours.shorten(
-            k,
-            if r.pct(50) {
-                n - 1
-            } else {
-                r.below(n as u64) as usize
-            },
-        );
+        ours.shorten(k, fewer(tables.blocked.len(), r));
     }
     (tables, ours, !tables_read.contains(&k))
 }
@@ -112,6 +104,8 @@ pub fn checks(t: &mut Tally, r: &mut Rng) {
             });
             t.step();
         }
+        t.hold(&tables, &ours.tables(), || format!("written {tables:?}"));
+        ours.guards_hold();
     }
 }
 
@@ -158,6 +152,8 @@ pub fn cells(t: &mut Tally, r: &mut Rng) {
             }
             t.step();
         }
+        t.hold(&tables, &ours.tables(), || format!("written {tables:?}"));
+        ours.guards_hold();
     }
 }
 

@@ -167,9 +167,9 @@ impl Grid {
     /// free neighbours and leaves the mark as it was.
     ///
     /// **So an order to block that is given twice makes false yeses.** Blocking a blocked cell joins what lies on either
-    /// side of it. The grid is not dirty then, so [`update`](Grid::update) does nothing about it; only
-    /// [`rebuild`](Grid::rebuild) does. This is the rule of the library that Barnsling follows. A controller that may repeat
-    /// its orders uses [`gate`](Grid::gate), which asks first.
+    /// side of it. On a grid that was not dirty the mark does not tell, and [`update`](Grid::update) does nothing about it;
+    /// only [`rebuild`](Grid::rebuild) does. This is the rule of the library that Barnsling follows. A controller that may
+    /// repeat its orders uses [`gate`](Grid::gate), which asks first.
     ///
     /// ```
     /// use barnsling::{Grid, Point, Refusal};

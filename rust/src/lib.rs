@@ -46,6 +46,8 @@
 //! A [`Grid`] owns its tables, [`Rooms`] the working room of searches. A host that keeps its own memory uses [`lent`],
 //! which has each call over slices. The crate needs `alloc` and no more of the standard library.
 //!
+//! What the calls take of the stack is said in include/barnsling.h (STACK): most take little, [`route_text`] several hundred kB.
+//!
 //! No argument makes a call panic. The three calls that make a grid ([`Grid::new`], [`Grid::from_tables`], [`lent::new`]) panic
 //! if the archive that was linked is of another version than the crate.
 #![no_std]

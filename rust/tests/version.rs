@@ -20,7 +20,7 @@ fn header_and_crate_are_of_one_version() {
 }
 
 #[test]
-#[should_panic(expected = "libboundary.a is of version 3, and this crate is written for version 2")]
+#[should_panic(expected = "and this crate is written for version")]
 fn another_version_is_told() {
-    same_version(3);
+    same_version(lent::VERSION + 1);
 }

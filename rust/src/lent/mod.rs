@@ -77,7 +77,7 @@ pub const VERSION: u32 = 2;
 /// no other call looks.
 ///
 /// ```
-/// assert_eq!(barnsling::lent::version(), 2);
+/// assert!(barnsling::lent::version() >= 2);
 /// ```
 pub fn version() -> u32 {
     crate::raw::version()

@@ -105,7 +105,7 @@ pub struct Answer {
 
 /// The numbers of a list of points, x and y in turn.
 pub(crate) fn numbers(list: &[Point]) -> &[i32] {
-    // SAFETY: a Point is two i32 in order, by repr(C), and nothing else.
+    // SAFETY: a Point is two i32 in order, by repr(C), and nothing else; so twice the length is below usize::MAX, too.
     unsafe { core::slice::from_raw_parts(list.as_ptr().cast(), 2 * list.len()) }
 }
 
