@@ -1,7 +1,7 @@
 //! Barnsling for Rust hosts: can this cart get there, and which way?
 //!
-//! Every call is proved to end, with no fault, on every input, and to answer what the written rules say. The proofs are
-//! of the archive `libboundary.a`, which this crate links; the crate itself lends it memory and names its answers.
+//! Every call of the archive `libboundary.a`, which this crate links, is proved to end, with no fault, on every input, and
+//! to answer what the written rules say. The crate itself lends it memory and names its answers; it is tested, not proved.
 //!
 //! **The rule:** once the tables have been built ([`Grid::rebuild`]), a no between two different free cells is always
 //! true, as long as the diagonal setting is the one that the tables were built with. A yes may be hopeful after a gate has
@@ -9,7 +9,7 @@
 //!
 //! **Orders that may be repeated** go through [`Grid::gate`]. The bare edit, [`Grid::set`], joins the two sides of a cell that
 //! is blocked already when it is told to block it; then a yes can be false though the grid is not dirty, and only
-//! [`Grid::rebuild`] makes it true again.
+//! [`Grid::rebuild`] takes it back.
 //!
 //! ```
 //! use barnsling::{Grid, Point, Refusal, Rooms};
