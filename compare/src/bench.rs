@@ -2,7 +2,7 @@
 //!
 //! "With STATE" is a call of the boundary, which tests the state of every cell first; "inner" is the call behind it, which requires a legal state.
 use crate::inner;
-use crate::lent::{Lent, Rooms};
+use crate::lent::{Lengths, Lent, Rooms, LARGEST_ROOMS};
 use grid_pathfinding::PathingGrid;
 use grid_util::grid::ValueGrid;
 use grid_util::point::Point;
@@ -32,7 +32,10 @@ extern "C" {
 }
 /// This thread's processor time: another program's turns do not count.
 fn now() -> f64 {
-    let mut t = Spec { seconds: 0, nanoseconds: 0 };
+    let mut t = Spec {
+        seconds: 0,
+        nanoseconds: 0,
+    };
     unsafe { clock_gettime(3, &mut t) };
     t.seconds as f64 * 1e9 + t.nanoseconds as f64
 }
@@ -58,14 +61,27 @@ struct Times {
     inner: Option<f64>,
 }
 fn head() {
-    println!("{:<36} {:>10} {:>12} {:>7} {:>10} {:>7}", "nanoseconds a call", "Rust", "with STATE", "ratio", "inner", "ratio");
+    println!(
+        "{:<36} {:>10} {:>12} {:>7} {:>10} {:>7}",
+        "nanoseconds a call", "Rust", "with STATE", "ratio", "inner", "ratio"
+    );
 }
 fn row(name: &str, t: &Times) {
-    let inner = t.inner.map_or(String::new(), |i| format!(" {:>10.1} {:>7.2}", i, i / t.rust));
-    println!("{name:<36} {:>10.1} {:>12.1} {:>7.2}{inner}", t.rust, t.tested, t.tested / t.rust);
+    let inner = t.inner.map_or(String::new(), |i| {
+        format!(" {:>10.1} {:>7.2}", i, i / t.rust)
+    });
+    println!(
+        "{name:<36} {:>10.1} {:>12.1} {:>7.2}{inner}",
+        t.rust,
+        t.tested,
+        t.tested / t.rust
+    );
 }
 fn named(what: &str, diagonal: bool) -> String {
-    format!("{what}, {}", if diagonal { "diagonals" } else { "straight" })
+    format!(
+        "{what}, {}",
+        if diagonal { "diagonals" } else { "straight" }
+    )
 }
 
 /// A map's cells, row by row.
@@ -146,7 +162,10 @@ pub fn run() {
         tables(64, diagonal);
     }
     for side in [16, 32, 64] {
-        mean(&format!("the searches' ratios at {side}"), means.iter().filter(|m| m.0 == side));
+        mean(
+            &format!("the searches' ratios at {side}"),
+            means.iter().filter(|m| m.0 == side),
+        );
     }
     mean("all searches' ratios", means.iter());
 }
@@ -158,7 +177,11 @@ fn mean<'a>(what: &str, of: impl Iterator<Item = &'a (i32, Times)>) {
         count += 1.0;
     }
     let of = |sum: f64| (sum / count).exp();
-    println!("geometric mean of {what}: {:.2} with STATE, {:.2} inner", of(tested), of(inner));
+    println!(
+        "geometric mean of {what}: {:.2} with STATE, {:.2} inner",
+        of(tested),
+        of(inner)
+    );
 }
 
 /// A map in both, with exact searches between free cells of one component: as orders, and as numbers.
@@ -171,28 +194,59 @@ fn orders(side: i32, kind: usize, diagonal: bool) -> (PathingGrid, Lent, Vec<Ask
         let (s, g) = (anywhere(side, &mut r), anywhere(side, &mut r));
         if rust.reachable(&s, &g) && !rust.get(s.x, s.y) && !rust.get(g.x, g.y) {
             numbers.extend([s.x, s.y, g.x, g.y]);
-            asks.push(Ask { kind: EXACT, diagonal, improved: true, factor: 1.0, limits: LARGEST, start: s, goals: vec![g], odd: false, room: 4097 });
+            asks.push(Ask {
+                kind: EXACT,
+                diagonal,
+                improved: true,
+                factor: 1.0,
+                limits: LARGEST,
+                start: s,
+                goals: vec![g],
+                odd: false,
+                room: 4097,
+            });
         }
     }
     (rust, ours, asks, numbers)
 }
 fn rust_searches(rust: &PathingGrid, asks: &[Ask]) -> usize {
-    asks.iter().map(|a| rust.get_waypoints_single_goal(a.start, a.goals[0], false).map_or(0, |v| v.len())).sum()
+    asks.iter()
+        .map(|a| {
+            rust.get_waypoints_single_goal(a.start, a.goals[0], false)
+                .map_or(0, |v| v.len())
+        })
+        .sum()
 }
 fn searches(side: i32, kind: usize, diagonal: bool) -> Times {
     let (rust, ours, asks, numbers) = orders(side, kind, diagonal);
     let mut rooms = [Rooms::new(), Rooms::new()];
+    let largest = Lengths {
+        rooms: LARGEST_ROOMS,
+        out: 8194,
+    };
     let mut lengths = [0; 3];
     let [a, b] = &mut rooms;
     let [rust_length, tested_length, inner_length] = &mut lengths;
     let t = least([
         &mut || *rust_length = rust_searches(&rust, &asks),
-        &mut || *tested_length = asks.iter().map(|k| a.route(&ours, k, &[k.goals[0].x, k.goals[0].y], 8194).4).sum(),
+        &mut || {
+            *tested_length = asks
+                .iter()
+                .map(|k| {
+                    a.route(&ours, k, &[k.goals[0].x, k.goals[0].y], largest)
+                        .waypoints as usize
+                })
+                .sum()
+        },
         &mut || *inner_length = inner::searches(&ours, b, diagonal, &numbers) as usize,
     ])
     .map(|t| t / SEARCHES as f64);
     assert_eq!(lengths, [lengths[0]; 3]);
-    Times { rust: t[0], tested: t[1], inner: Some(t[2]) }
+    Times {
+        rust: t[0],
+        tested: t[1],
+        inner: Some(t[2]),
+    }
 }
 /// What `compare/run instructions` counts: a map's searches by the Rust (1), by the inner call (2), or none (0), on 64 by 64.
 pub fn once(kind: usize, diagonal: bool, who: usize) {
@@ -224,7 +278,13 @@ fn tables(side: i32, diagonal: bool) {
     show("rebuild", &rebuild);
     show("map text to route", &text(side, diagonal));
     let state = question.tested - question.inner.unwrap();
-    println!("{:<36} {:>10} {:>12.1} {:>6.1}% of the Rust's rebuild", named(&format!("{side} STATE test alone"), diagonal), "", state, 100.0 * state / rebuild.rust);
+    println!(
+        "{:<36} {:>10} {:>12.1} {:>6.1}% of the Rust's rebuild",
+        named(&format!("{side} STATE test alone"), diagonal),
+        "",
+        state,
+        100.0 * state / rebuild.rust
+    );
 }
 fn new(side: i32, diagonal: bool) -> Times {
     let mut ours = Lent::room(side as usize, side as usize, &mut Rng(1));
@@ -243,13 +303,20 @@ fn new(side: i32, diagonal: bool) -> Times {
         },
     ])
     .map(|t| t / GRIDS as f64);
-    Times { rust: t[0], tested: t[1], inner: None }
+    Times {
+        rust: t[0],
+        tested: t[1],
+        inner: None,
+    }
 }
 /// The same edits of a new grid in both. A call of more rounds less a call of one: the first round and the new grid are not counted.
 fn edit(side: i32, diagonal: bool, edits: &[(Point, bool)]) -> Times {
     let room = || Lent::room(side as usize, side as usize, &mut Rng(1));
     let (mut tested, mut untested) = (room(), room());
-    let numbers: Vec<i32> = edits.iter().flat_map(|(p, b)| [p.x, p.y, *b as i32]).collect();
+    let numbers: Vec<i32> = edits
+        .iter()
+        .flat_map(|(p, b)| [p.x, p.y, *b as i32])
+        .collect();
     let rust = |rounds: usize| {
         let mut g = PathingGrid::new(side as usize, side as usize, false);
         g.allow_diagonal_move = diagonal;
@@ -260,13 +327,29 @@ fn edit(side: i32, diagonal: bool, edits: &[(Point, bool)]) -> Times {
         }
         g
     };
-    assert_eq!(inner::edits(&mut untested, diagonal, &numbers, 1 + ROUNDS), 1);
+    assert_eq!(
+        inner::edits(&mut untested, diagonal, &numbers, 1 + ROUNDS),
+        1
+    );
     let g = rust(1 + ROUNDS);
     for i in 0..side * side {
         let p = Point::new(i % side, i / side);
         let k = i as usize;
-        let of_rust = (g.get(p.x, p.y), g.neighbours.get(p.x, p.y), g.jump_point.get(p.x, p.y), g.get_component(&p) as u64);
-        assert_eq!(of_rust, (untested.blocked[k] != 0, untested.neighbours[k], untested.forced[k], untested.component(p)));
+        let of_rust = (
+            g.get(p.x, p.y),
+            g.neighbours.get(p.x, p.y),
+            g.jump_point.get(p.x, p.y),
+            g.get_component(&p) as u64,
+        );
+        assert_eq!(
+            of_rust,
+            (
+                untested.blocked[k] != 0,
+                untested.neighbours[k],
+                untested.forced[k],
+                untested.component(p)
+            )
+        );
     }
     assert!(g.components_dirty);
     assert_eq!(inner::edits(&mut tested, diagonal, &numbers, 1), 1);
@@ -284,11 +367,20 @@ fn edit(side: i32, diagonal: bool, edits: &[(Point, bool)]) -> Times {
     ])
     .map(|t| t / edits.len() as f64);
     let rounds = ROUNDS as f64;
-    Times { rust: (t[1] - t[0]) / rounds, tested: t[2], inner: Some((t[4] - t[3]) / rounds) }
+    Times {
+        rust: (t[1] - t[0]) / rounds,
+        tested: t[2],
+        inner: Some((t[4] - t[3]) / rounds),
+    }
 }
 fn question(rust: &PathingGrid, ours: &Lent, edits: &[(Point, bool)]) -> Times {
-    let asks: Vec<(Point, Point)> = (0..edits.len()).map(|k| (edits[k].0, edits[(k + 1) % edits.len()].0)).collect();
-    let numbers: Vec<i32> = asks.iter().flat_map(|(s, g)| [s.x, s.y, g.x, g.y]).collect();
+    let asks: Vec<(Point, Point)> = (0..edits.len())
+        .map(|k| (edits[k].0, edits[(k + 1) % edits.len()].0))
+        .collect();
+    let numbers: Vec<i32> = asks
+        .iter()
+        .flat_map(|(s, g)| [s.x, s.y, g.x, g.y])
+        .collect();
     let round = || asks.iter().filter(|(s, g)| rust.reachable(s, g)).count() as u64;
     let rounds = |n: u64| (0..n).map(|_| black_box(round())).sum::<u64>();
     let yeses = round();
@@ -296,12 +388,23 @@ fn question(rust: &PathingGrid, ours: &Lent, edits: &[(Point, bool)]) -> Times {
     let t = least([
         &mut || assert!(rounds(1) == yeses),
         &mut || assert!(rounds(1 + n) == yeses * (1 + n)),
-        &mut || assert!(asks.iter().map(|(s, g)| ours.reachable(*s, *g)).sum::<u64>() == yeses),
+        &mut || {
+            assert!(
+                asks.iter()
+                    .map(|(s, g)| ours.reachable(*s, *g))
+                    .sum::<u64>()
+                    == yeses
+            )
+        },
         &mut || assert!(inner::questions(ours, &numbers, 1) == yeses),
         &mut || assert!(inner::questions(ours, &numbers, 1 + n as usize) == yeses * (1 + n)),
     ])
     .map(|t| t / asks.len() as f64);
-    Times { rust: (t[1] - t[0]) / n as f64, tested: t[2], inner: Some((t[4] - t[3]) / n as f64) }
+    Times {
+        rust: (t[1] - t[0]) / n as f64,
+        tested: t[2],
+        inner: Some((t[4] - t[3]) / n as f64),
+    }
 }
 fn rebuild(mut rust: PathingGrid, mut ours: Lent, diagonal: bool) -> Times {
     let t = least([
@@ -317,13 +420,21 @@ fn rebuild(mut rust: PathingGrid, mut ours: Lent, diagonal: bool) -> Times {
         },
     ])
     .map(|t| t / GRIDS as f64);
-    Times { rust: t[0], tested: t[1], inner: None }
+    Times {
+        rust: t[0],
+        tested: t[1],
+        inner: None,
+    }
 }
 /// The Rust with the judge's reader before it, and its waypoints printed.
 fn rust_route(text: &[u8]) -> String {
     let m = tools::maps::parse(text).unwrap();
     let found = tools::maps::plain_grid(&m).get_waypoints_single_goal(m.start, m.goal, false);
-    found.unwrap().iter().map(|p| format!("point={},{}\n", p.x, p.y)).collect()
+    found
+        .unwrap()
+        .iter()
+        .map(|p| format!("point={},{}\n", p.x, p.y))
+        .collect()
 }
 /// A whole map text read, rebuilt, searched and printed.
 fn text(side: i32, diagonal: bool) -> Times {
@@ -331,7 +442,12 @@ fn text(side: i32, diagonal: bool) -> Times {
     let mut cells = walls(0, side, &mut r);
     let last = (side * side - 1) as usize;
     (cells[0], cells[last]) = (false, false);
-    let mut text = format!("width={side}\nheight={side}\ndiagonal={}\nstart=0,0\ngoal={},{}\n", diagonal as u8, side - 1, side - 1);
+    let mut text = format!(
+        "width={side}\nheight={side}\ndiagonal={}\nstart=0,0\ngoal={},{}\n",
+        diagonal as u8,
+        side - 1,
+        side - 1
+    );
     for row in cells.chunks(side as usize) {
         text.push_str("row=");
         text.extend(row.iter().map(|b| if *b { '#' } else { '.' }));
@@ -340,10 +456,13 @@ fn text(side: i32, diagonal: bool) -> Times {
     let mut out = vec![0; barnsling::lent::TEXT_ROOM];
     let mut written = 0;
     let mut of_rust = String::new();
-    let t = least([
-        &mut || of_rust = rust_route(text.as_bytes()),
-        &mut || written = barnsling::lent::route_text(text.as_bytes(), &mut out) as usize,
-    ]);
+    let t = least([&mut || of_rust = rust_route(text.as_bytes()), &mut || {
+        written = barnsling::raw::route_text(text.as_bytes(), &mut out) as usize
+    }]);
     assert!(out[..written].ends_with(of_rust.as_bytes()));
-    Times { rust: t[0], tested: t[1], inner: None }
+    Times {
+        rust: t[0],
+        tested: t[1],
+        inner: None,
+    }
 }

@@ -2,6 +2,7 @@
 use crate::lent::{Lent, Rooms};
 
 mod raw {
+    #[rustfmt::skip]
     extern "C" {
         pub fn bench_questions(p: *const u16, pn: usize, k: *const u8, kn: usize, asks: *const i32, an: usize, w: usize, h: usize, rounds: usize) -> u64;
         pub fn bench_searches(b: *const u8, bn: usize, e: *const u8, en: usize, f: *const u8, fnn: usize, p: *const u16, pn: usize, k: *const u8, kn: usize,
@@ -14,21 +15,80 @@ mod raw {
 /// The yeses of so many rounds of questions, each sx, sy, gx, gy.
 pub fn questions(l: &Lent, asks: &[i32], rounds: usize) -> u64 {
     let n = l.len;
-    unsafe { raw::bench_questions(l.parent.as_ptr(), n[3], l.rank.as_ptr(), n[4], asks.as_ptr(), asks.len(), l.w, l.h, rounds) }
+    unsafe {
+        raw::bench_questions(
+            l.parent.as_ptr(),
+            n[3],
+            l.rank.as_ptr(),
+            n[4],
+            asks.as_ptr(),
+            asks.len(),
+            l.w,
+            l.h,
+            rounds,
+        )
+    }
 }
 /// The waypoints of exact searches, each sx, sy, gx, gy, added up.
 pub fn searches(l: &Lent, r: &mut Rooms, diagonal: bool, asks: &[i32]) -> u64 {
     let n = l.len;
     unsafe {
-        raw::bench_searches(l.blocked.as_ptr(), n[0], l.neighbours.as_ptr(), n[1], l.forced.as_ptr(), n[2], l.parent.as_ptr(), n[3], l.rank.as_ptr(), n[4],
-            r.number.as_mut_ptr(), r.number.len(), r.place.as_mut_ptr(), r.place.len(), r.parent.as_mut_ptr(), r.parent.len(), r.cost.as_mut_ptr(), r.cost.len(), r.keys.as_mut_ptr(), r.keys.len(), r.idx.as_mut_ptr(), r.idx.len(), r.out.as_mut_ptr(), r.out.len(),
-            asks.as_ptr(), asks.len(), l.w, l.h, diagonal as u8)
+        raw::bench_searches(
+            l.blocked.as_ptr(),
+            n[0],
+            l.neighbours.as_ptr(),
+            n[1],
+            l.forced.as_ptr(),
+            n[2],
+            l.parent.as_ptr(),
+            n[3],
+            l.rank.as_ptr(),
+            n[4],
+            r.number.as_mut_ptr(),
+            r.number.len(),
+            r.place.as_mut_ptr(),
+            r.place.len(),
+            r.parent.as_mut_ptr(),
+            r.parent.len(),
+            r.cost.as_mut_ptr(),
+            r.cost.len(),
+            r.keys.as_mut_ptr(),
+            r.keys.len(),
+            r.idx.as_mut_ptr(),
+            r.idx.len(),
+            r.out.as_mut_ptr(),
+            r.out.len(),
+            asks.as_ptr(),
+            asks.len(),
+            l.w,
+            l.h,
+            diagonal as u8,
+        )
     }
 }
 /// A new grid, and so many rounds of edits, each x, y, blocked: the dirty mark afterwards.
 pub fn edits(l: &mut Lent, diagonal: bool, edits: &[i32], rounds: usize) -> u64 {
     let n = l.len;
-    let v = unsafe { raw::bench_edits(l.blocked.as_mut_ptr(), n[0], l.neighbours.as_mut_ptr(), n[1], l.forced.as_mut_ptr(), n[2], l.parent.as_mut_ptr(), n[3], l.rank.as_mut_ptr(), n[4], edits.as_ptr(), edits.len(), l.w, l.h, diagonal as u8, rounds) };
+    let v = unsafe {
+        raw::bench_edits(
+            l.blocked.as_mut_ptr(),
+            n[0],
+            l.neighbours.as_mut_ptr(),
+            n[1],
+            l.forced.as_mut_ptr(),
+            n[2],
+            l.parent.as_mut_ptr(),
+            n[3],
+            l.rank.as_mut_ptr(),
+            n[4],
+            edits.as_ptr(),
+            edits.len(),
+            l.w,
+            l.h,
+            diagonal as u8,
+            rounds,
+        )
+    };
     if v < 2 {
         l.dirty = v == 1;
     }

@@ -1,6 +1,7 @@
 //! compare SEED GROUND STEPS SEARCHES TEXTS: the archive and the Rust on the same inputs, in one process.
 //!
-//! Prints a count for each kind and the differences, the first few of them whole. Exits with 1 if there is one.
+//! Prints a count for each kind and the differences, the first few of them whole. Exits with 1 if there is one, and with 2
+//! where the words are not its own.
 #[cfg(feature = "bench")]
 mod bench;
 mod ground;
@@ -10,89 +11,103 @@ mod lent;
 #[cfg(feature = "searches")]
 mod searches;
 mod tables;
+mod tally;
 mod walks;
 
-/// What was compared, and what differed.
-#[derive(Default)]
-pub struct Tally {
-    pub compared: u64,
-    pub differences: u64,
-    /// steps or searches, each with several comparisons
-    pub steps: u64,
-    told: u64,
-    pub results: std::collections::BTreeMap<u8, u64>,
-    /// the shortest input at which the two differed
-    pub smallest: Option<String>,
+use tally::Tally;
+
+const WORDS: [&str; 5] = ["SEED", "GROUND", "STEPS", "SEARCHES", "TEXTS"];
+
+/// What is wrong with the words, on standard error; the exit status is 2.
+fn stop(wrong: &str) -> ! {
+    eprintln!("compare: {wrong}");
+    std::process::exit(2);
 }
-impl Tally {
-    /// One comparison; the input is told where the two differ.
-    pub fn hold<T: PartialEq + std::fmt::Debug>(
-        &mut self,
-        rust: T,
-        ours: T,
-        input: impl Fn() -> String,
-    ) {
-        self.compared += 1;
-        if rust != ours {
-            self.differences += 1;
-            let line = format!("{}: Rust {:?}, ours {:?}", input(), rust, ours);
-            if self.smallest.as_ref().map_or(true, |s| line.len() < s.len()) {
-                println!("differs at {line}");
-                self.smallest = Some(line);
-            }
-        }
+
+/// The number that a word stands for.
+fn number(what: &str, word: &str) -> u64 {
+    let most = u64::MAX;
+    match word.parse() {
+        Ok(number) => number,
+        Err(_) => stop(&format!(
+            "{what} is to be a whole number from 0 to {most}, and is {word:?}"
+        )),
     }
-    pub fn progress(&mut self, what: &str, count: u64) {
-        let tenth = self.steps * 10 / count.max(1);
-        if tenth > self.told {
-            self.told = tenth;
-            eprintln!("{what}: {} of {count}, {} differences", self.steps, self.differences);
-        }
+}
+
+/// The times of both, where the program was built for them and is asked for them.
+#[cfg(feature = "bench")]
+fn timed(words: &[&str]) -> bool {
+    match words {
+        ["bench"] => bench::run(),
+        ["once", kind, diagonal, who] => bench::once(
+            number("the kind of map", kind) as usize,
+            *diagonal == "1",
+            number("who searches", who) as usize,
+        ),
+        _ => return false,
     }
+    true
+}
+#[cfg(not(feature = "bench"))]
+fn timed(words: &[&str]) -> bool {
+    if matches!(words.first(), Some(&("bench" | "once"))) {
+        stop("this program was built without the times; compare/run bench builds it with them");
+    }
+    false
 }
 
 fn main() {
-    let words: Vec<String> = std::env::args().skip(1).collect();
-    #[cfg(feature = "bench")]
-    if words.first().map(|s| s.as_str()) == Some("bench") {
-        bench::run();
+    let words: Vec<String> = std::env::args_os()
+        .skip(1)
+        .map(|word| word.to_string_lossy().into_owned())
+        .collect();
+    let words: Vec<&str> = words.iter().map(|word| word.as_str()).collect();
+    if timed(&words) {
         return;
     }
-    #[cfg(feature = "bench")]
-    if let ["once", kind, diagonal, who] = words.iter().map(|s| s.as_str()).collect::<Vec<_>>()[..] {
-        bench::once(kind.parse().unwrap(), diagonal == "1", who.parse().unwrap());
-        return;
+    if words.len() != WORDS.len() {
+        stop(&format!(
+            "{} words came, and five numbers are wanted: {}",
+            words.len(),
+            WORDS.join(" ")
+        ));
     }
-    let a: Vec<u64> = words.iter().map(|s| s.parse().expect("a number")).collect();
-    assert_eq!(a.len(), 5, "compare SEED GROUND STEPS SEARCHES TEXTS");
-    let mut r = tools::Rng(a[0]);
-    let kinds: Vec<(&str, fn(u64, &mut tools::Rng) -> Tally, u64)> = vec![
-        ("masks", ground::masks, a[1]),
-        ("directions", ground::directions, a[1]),
-        ("distances", ground::distances, a[1]),
-        ("tables", tables::steps, a[2]),
-        ("refused tables", tables::refusals, a[2] / 10),
-        #[cfg(feature = "searches")]
-        ("searches", searches::searches, a[3]),
-        ("paths", walks::paths, a[2] / 10),
-        ("route checks", walks::checks, a[2] / 10),
-        ("masks of cells", walks::masks_of_cells, a[2] / 10),
-        ("texts", walks::texts, a[4]),
-    ];
-    let mut differences = 0;
-    for (name, run, count) in kinds {
-        let t = run(count, &mut r);
-        println!(
-            "{}: {} steps, {} compared, {} differences",
-            name, t.steps, t.compared, t.differences
-        );
-        if !t.results.is_empty() {
-            println!("results: {:?}", t.results);
-        }
-        differences += t.differences;
-    }
-    println!("seed {}, differences={}", a[0], differences);
-    if differences > 0 {
+    let [seed, ground, steps, searches, texts] =
+        [0, 1, 2, 3, 4].map(|i| number(WORDS[i], words[i]));
+    if !compare(seed, ground, steps, searches, texts) {
         std::process::exit(1);
     }
+}
+
+/// What compares so many inputs of one kind.
+type Kind = fn(&mut Tally, &mut tools::Rng);
+
+/// Whether no answer differed.
+fn compare(seed: u64, ground: u64, steps: u64, searches: u64, texts: u64) -> bool {
+    let mut r = tools::Rng(seed);
+    let kinds: Vec<(&str, Kind, u64)> = vec![
+        ("masks", ground::masks, 256),
+        ("directions", ground::directions, ground),
+        ("distances", ground::distances, ground),
+        ("tables", tables::steps, steps),
+        ("refused tables", tables::refusals, steps / 10),
+        #[cfg(feature = "searches")]
+        ("searches", searches::searches, searches),
+        ("paths", walks::paths, steps / 10),
+        ("route checks", walks::checks, steps / 10),
+        ("cells", walks::cells, steps / 10),
+        ("texts", walks::texts, texts),
+    ];
+    #[cfg(not(feature = "searches"))]
+    let _ = searches;
+    let mut differences = 0;
+    for (name, run, count) in kinds {
+        let mut t = Tally::new(name, count);
+        run(&mut t, &mut r);
+        t.tell();
+        differences += t.differences;
+    }
+    println!("seed {seed}, differences={differences}");
+    differences == 0
 }

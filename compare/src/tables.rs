@@ -1,5 +1,5 @@
 //! Tables: runs of new, set, update and rebuild on lent tables, all of them compared after every step, and the questions.
-use crate::lent::{Lent, POINT, SIZE, STATE};
+use crate::lent::{fewer, Lent, POINT, SIZE, STATE};
 use crate::Tally;
 use grid_util::point::Point;
 use tools::judge::{in_range, Both};
@@ -9,7 +9,10 @@ use tools::Rng;
 fn any_point(w: i32, h: i32, r: &mut Rng) -> Point {
     match r.below(24) {
         0 => Point::new(r.range(-2, w + 1), r.range(-2, h + 1)),
-        1 => Point::new([-1025, 0, 1024, i32::MAX, i32::MIN][r.below(5) as usize], 1023),
+        1 => Point::new(
+            [-1025, 0, 1024, i32::MAX, i32::MIN][r.below(5) as usize],
+            1023,
+        ),
         _ => Point::new(r.range(0, w - 1), r.range(0, h - 1)),
     }
 }
@@ -28,15 +31,29 @@ impl Run {
         now.blocked = self.bytes.clone();
         let told = &self.told;
         t.hold((rust, &now), (ours, &self.ours.tables()), || told.clone());
-        t.steps += 1;
+        t.step();
         if !now.legal() {
             return;
         }
         let (w, h) = (self.ours.w as i32, self.ours.h as i32);
         for _ in 0..2 {
             let p = any_point(w, h, r);
-            let rust = if self.both.inside(p) { self.both.component(p) as u64 } else { POINT };
-            t.hold(rust, self.ours.component(p), || format!("{told} component {p:?}"));
+            let rust = if self.both.inside(p) {
+                self.both.component(p) as u64
+            } else {
+                POINT
+            };
+            t.hold(rust, self.ours.component(p), || {
+                format!("{told} component {p:?}")
+            });
+            let rust = if self.both.inside(p) {
+                (self.bytes[(p.y * w + p.x) as usize] != 0) as u64
+            } else {
+                POINT
+            };
+            t.hold(rust, self.ours.blocked_at(p), || {
+                format!("{told} blocked {p:?}")
+            });
             let (s, g) = (any_point(w, h, r), any_point(w, h, r));
             let rust = if !in_range(s) {
                 [POINT + (256 << 32); 4]
@@ -68,13 +85,18 @@ impl Run {
             }
             2 => {
                 self.diagonal = r.pct(50);
-                self.told.push_str(if self.diagonal { " diagonal" } else { " straight" });
+                self.told.push_str(if self.diagonal {
+                    " diagonal"
+                } else {
+                    " straight"
+                });
                 self.both.diagonal(self.diagonal);
                 return;
             }
             _ => {
                 let (p, b) = (any_point(w, h, r), r.pct(density));
-                self.told.push_str(&format!(" set {},{},{}", p.x, p.y, b as u8));
+                self.told
+                    .push_str(&format!(" set {},{},{}", p.x, p.y, b as u8));
                 if self.both.inside(p) {
                     self.both.set(p.x, p.y, b);
                     self.bytes[(p.y * w + p.x) as usize] = b as u8;
@@ -99,9 +121,8 @@ fn side(r: &mut Rng) -> i32 {
 }
 
 /// Grids from new, and from legal tables that no calls made.
-pub fn steps(count: u64, r: &mut Rng) -> Tally {
-    let mut t = Tally::default();
-    while t.steps < count {
+pub fn steps(t: &mut Tally, r: &mut Rng) {
+    while t.more() {
         let mut run;
         if r.pct(80) {
             let (w, h) = (side(r) as usize, side(r) as usize);
@@ -112,18 +133,20 @@ pub fn steps(count: u64, r: &mut Rng) -> Tally {
                 diagonal: true,
                 told: format!("new {w} {h}"),
             };
+            run.ours.lengthen(r);
             let ours = run.ours.new_grid();
-            run.hold(&mut t, 0, ours, r);
+            run.hold(t, 0, ours, r);
         } else {
             let s = side(r).min(24);
             let tables = any_tables(s, r);
             run = Run {
                 both: Both::of_tables(&tables),
-                ours: Lent::of_tables(&tables, r),
+                ours: Lent::of_tables(&tables),
                 bytes: tables.blocked.clone(),
                 diagonal: true,
                 told: format!("{tables:?}"),
             };
+            run.ours.lengthen(r);
         }
         run.both.diagonal(run.diagonal);
         let density = r.range(10, 70) as u64;
@@ -131,45 +154,45 @@ pub fn steps(count: u64, r: &mut Rng) -> Tally {
             if !run.ours.tables().legal() {
                 break;
             }
-            run.step(&mut t, density, r);
+            run.step(t, density, r);
         }
         run.ours.guards_hold();
-        t.progress("table steps", count);
     }
-    t
 }
 
 /// Illegal and short tables, sides out of range: refused, and nothing is written.
-pub fn refusals(count: u64, r: &mut Rng) -> Tally {
-    let mut t = Tally::default();
-    for _ in 0..count {
-        let mut tables = illegal_tables(6, r);
+pub fn refusals(t: &mut Tally, r: &mut Rng) {
+    while t.more() {
         if r.pct(40) {
-            tables = any_tables(6, r);
-            let n = tables.w * tables.h;
+            let tables = any_tables(6, r);
             let k = r.below(5);
-            let mut ours = Lent::of_tables(&tables, r);
-            ours.shorten(k as usize, r.below(n as u64) as usize);
-            refused(&mut t, ours, k >= 3, r, &format!("{tables:?} short {k}"), k);
-            continue;
+            let mut ours = Lent::of_tables(&tables);
+            ours.lengthen(r);
+            ours.shorten(k as usize, fewer(tables.blocked.len(), r));
+            refused(t, ours, k >= 3, r, &format!("{tables:?} short {k}"), k);
+        } else {
+            let tables = illegal_tables(6, r);
+            let mut ours = Lent::of_tables(&tables);
+            ours.lengthen(r);
+            refused(t, ours, true, r, &format!("{tables:?}"), 9);
         }
-        let ours = Lent::of_tables(&tables, r);
-        refused(&mut t, ours, true, r, &format!("{tables:?}"), 9);
     }
-    t
 }
 fn refused(t: &mut Tally, mut ours: Lent, links: bool, r: &mut Rng, told: &str, short: u64) {
-    t.steps += 1;
+    t.step();
     let before = ours.tables();
     let (d, p, g) = (r.pct(50), any_point(4, 4, r), any_point(4, 4, r));
     t.hold(STATE, ours.set(d, p, r.pct(50)), || format!("{told} set"));
     if links || short == 0 {
         t.hold(STATE, ours.rebuild(d), || format!("{told} rebuild"));
         t.hold(STATE, ours.update(d), || format!("{told} update"));
+        t.hold(STATE, ours.blocked_at(p), || format!("{told} blocked"));
     }
     if links {
         t.hold(STATE, ours.component(p), || format!("{told} component"));
-        t.hold([STATE; 4], ours.questions(d, p, g), || format!("{told} questions"));
+        t.hold([STATE; 4], ours.questions(d, p, g), || {
+            format!("{told} questions")
+        });
     }
     if short < 5 {
         t.hold(STATE, ours.new_grid(), || format!("{told} new"));

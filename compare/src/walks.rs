@@ -1,7 +1,8 @@
-//! Paths, route checks, map texts and the masks of a cell. The path is the Rust's; the check, the text's form and the refusals are document 01's.
-use crate::lent::{at, Lent, POINT, STATE};
+//! Paths, route checks, map texts and what the tables hold of a cell. The path is the Rust's; the check, the text's form and the refusals are document 01's.
+use crate::lent::{at, fewer, Lent, POINT, STATE};
 use crate::Tally;
-use barnsling::lent::{self, Reply, TEXT_ROOM};
+use barnsling::lent::TEXT_ROOM;
+use barnsling::raw::{self, Reply};
 use grid_pathfinding::waypoints_to_path;
 use grid_util::point::Point;
 use tools::ground::pruned;
@@ -12,75 +13,106 @@ use tools::{maps, stats, Rng};
 const UNTOUCHED: i32 = -70_007;
 
 fn reply(no: (u8, Point), value: u64) -> Reply {
-    Reply { refusal: no.0 as u64, value, x: no.1.x, y: no.1.y }
+    Reply {
+        refusal: no.0 as u64,
+        value,
+        x: no.1.x,
+        y: no.1.y,
+    }
 }
 const ACCEPTED: (u8, Point) = (0, Point { x: 0, y: 0 });
 
 /// The reply, the points written, and that the rest of the room is untouched.
-pub fn paths(count: u64, r: &mut Rng) -> Tally {
-    let mut t = Tally::default();
+pub fn paths(t: &mut Tally, r: &mut Rng) {
     let mut out = vec![UNTOUCHED; 40_000];
-    for _ in 0..count {
+    while t.more() {
         let v = any_numbers(9, 24, 24, r);
         let no = list_refused(&v);
-        let walked = if no.is_some() { vec![] } else { waypoints_to_path(points_of(&v)) };
+        let walked = if no.is_some() {
+            vec![]
+        } else {
+            waypoints_to_path(points_of(&v))
+        };
         let numbers = match r.below(8) {
             0 => (2 * walked.len()).saturating_sub(r.range(1, 3) as usize),
             1 => 2 * walked.len() + r.below(2) as usize,
             _ => out.len() - 1,
         };
-        let no = no.unwrap_or(if 2 * walked.len() > numbers { (10, Point::new(0, 0)) } else { ACCEPTED });
+        let no = no.unwrap_or(if 2 * walked.len() > numbers {
+            (10, Point::new(0, 0))
+        } else {
+            ACCEPTED
+        });
         let walked = if no.0 == 0 { walked } else { vec![] };
-        let ours = lent::waypoints_to_path(&v, &mut out[..numbers]);
-        t.hold(reply(no, walked.len() as u64), ours, || format!("path {v:?} in {numbers}"));
+        let ours = raw::waypoints_to_path(&v, &mut out[..numbers]);
+        t.hold(reply(no, walked.len() as u64), ours, || {
+            format!("path {v:?} in {numbers}")
+        });
         let written = 2 * (ours.value as usize);
-        t.hold(&walked, &points_of(&out[..written]), || format!("path {v:?} in {numbers}"));
+        t.hold(&walked, &points_of(&out[..written]), || {
+            format!("path {v:?} in {numbers}")
+        });
         out[..written].fill(UNTOUCHED);
-        assert!(out.iter().all(|n| *n == UNTOUCHED), "output written beyond the path");
-        t.steps += 1;
+        assert!(
+            out.iter().all(|n| *n == UNTOUCHED),
+            "output written beyond the path"
+        );
+        t.step();
     }
-    t
 }
 
 /// Tables that are a grid, or, told by the flag, that are none; at times a table is lent short.
 fn some_tables(r: &mut Rng, tables_read: &[usize]) -> (Tables, Lent, bool) {
     if r.pct(10) {
         let tables = illegal_tables(6, r);
-        let ours = Lent::of_tables(&tables, r);
+        let mut ours = Lent::of_tables(&tables);
+        ours.lengthen(r);
         return (tables, ours, false);
     }
     let tables = any_tables(r.range(1, 12), r);
-    let mut ours = Lent::of_tables(&tables, r);
+    let mut ours = Lent::of_tables(&tables);
+    ours.lengthen(r);
     let k = r.below(50) as usize;
     if k < 5 {
-        ours.shorten(k, r.below(tables.blocked.len() as u64) as usize);
+        ours.shorten(k, fewer(tables.blocked.len(), r));
     }
     (tables, ours, !tables_read.contains(&k))
 }
 
-pub fn checks(count: u64, r: &mut Rng) -> Tally {
-    let mut t = Tally::default();
-    for _ in 0..count {
+pub fn checks(t: &mut Tally, r: &mut Rng) {
+    while t.more() {
         let (tables, ours, legal) = some_tables(r, &[0, 3, 4]);
         let (w, h) = (tables.w as i32, tables.h as i32);
         for _ in 0..4 {
             let v = any_numbers(6, w.max(1), h.max(1), r);
-            let free = |p: &Point| p.x >= 0 && p.y >= 0 && p.x < w && p.y < h && tables.blocked[(p.y * w + p.x) as usize] == 0;
-            let no = if legal { list_refused(&v).unwrap_or(ACCEPTED) } else { (2, Point::new(0, 0)) };
+            let free = |p: &Point| {
+                p.x >= 0
+                    && p.y >= 0
+                    && p.x < w
+                    && p.y < h
+                    && tables.blocked[(p.y * w + p.x) as usize] == 0
+            };
+            let no = if legal {
+                list_refused(&v).unwrap_or(ACCEPTED)
+            } else {
+                (2, Point::new(0, 0))
+            };
             let clear = no.0 == 0 && points_of(&v)[1..].iter().all(free);
-            let got = lent::check_route(ours.cells(), &v);
-            t.hold(reply(no, clear as u64), got, || format!("check {v:?} on {tables:?}"));
-            t.steps += 1;
+            let got = raw::check_route(ours.cells(), &v);
+            t.hold(reply(no, clear as u64), got, || {
+                format!("check {v:?} on {tables:?}")
+            });
+            t.step();
         }
+        t.hold(&tables, &ours.tables(), || format!("written {tables:?}"));
+        ours.guards_hold();
     }
-    t
 }
 
-/// One table is read for each mask: what it holds, or STATE, or POINT.
-pub fn masks_of_cells(count: u64, r: &mut Rng) -> Tally {
-    let mut t = Tally::default();
-    for _ in 0..count {
-        let table = 1 + r.below(2) as usize;
+/// One table is read for each question about a cell: what it holds, or STATE, or POINT.
+pub fn cells(t: &mut Tally, r: &mut Rng) {
+    while t.more() {
+        let table = r.below(3) as usize;
         let (tables, ours, legal) = some_tables(r, &[table, 3, 4]);
         let (w, h) = (tables.w as i32, tables.h as i32);
         for _ in 0..4 {
@@ -94,46 +126,66 @@ pub fn masks_of_cells(count: u64, r: &mut Rng) -> Tally {
                 (true, false) => POINT,
                 (true, true) => v[(p.y * w + p.x) as usize] as u64,
             };
-            let told = || format!("masks {p:?} on {tables:?}");
-            if table == 2 {
-                t.hold(read(&tables.forced), lent::forced_at(ours.cells(), at(p)), told);
-            } else {
-                let mask = read(&tables.neighbours);
-                t.hold(mask, lent::neighbours_at(ours.cells(), at(p)), told);
-                let (diagonal, d) = (r.pct(50), r.below(256) as u8);
-                let rust = if mask < 256 { pruned(diagonal, d as i32 % 8, mask as u8) as u64 } else { mask };
-                t.hold(rust, lent::pruned_at(ours.cells(), diagonal, at(p), d), told);
+            let told = || format!("table {table} at {p:?} of {tables:?}");
+            match table {
+                0 => {
+                    let byte = read(&tables.blocked);
+                    let rust = if byte < 256 { (byte != 0) as u64 } else { byte };
+                    t.hold(rust, ours.blocked_at(p), told);
+                }
+                1 => {
+                    let mask = read(&tables.neighbours);
+                    t.hold(mask, raw::neighbours_at(ours.cells(), at(p)), told);
+                    let (diagonal, d) = (r.pct(50), r.below(256) as u8);
+                    let rust = if mask < 256 {
+                        pruned(diagonal, d as i32 % 8, mask as u8) as u64
+                    } else {
+                        mask
+                    };
+                    t.hold(rust, raw::pruned_at(ours.cells(), diagonal, at(p), d), told);
+                }
+                _ => t.hold(
+                    read(&tables.forced),
+                    raw::forced_at(ours.cells(), at(p)),
+                    told,
+                ),
             }
-            t.steps += 1;
+            t.step();
         }
+        t.hold(&tables, &ours.tables(), || format!("written {tables:?}"));
+        ours.guards_hold();
     }
-    t
 }
 
 /// Whole and damaged texts; the bytes printed, and that the rest of the room is untouched.
-pub fn texts(count: u64, r: &mut Rng) -> Tally {
-    let mut t = Tally::default();
+pub fn texts(t: &mut Tally, r: &mut Rng) {
     let seed = r.next();
     let mut out = vec![0xA5; TEXT_ROOM + 9];
-    for i in 0..count {
-        let text = match i % 2 {
-            0 => text_case(seed, i / 2).0,
+    while t.more() {
+        let text = match t.steps % 2 {
+            0 => text_case(seed, t.steps / 2).0,
             _ => damage(&gen_map("tiny", r), r).0,
         };
         let rust = maps::route(&text, stats::LARGEST).out.into_bytes();
         let told = || format!("text {:?}", String::from_utf8_lossy(&text));
         let room = TEXT_ROOM + r.below(9) as usize;
-        let written = lent::route_text(&text, &mut out[..room]);
+        let written = raw::route_text(&text, &mut out[..room]);
         t.hold(rust.len() as u64, written, told);
         let written = (written as usize).min(room);
         t.hold(&rust[..], &out[..written], told);
         out[..written].fill(0xA5);
-        assert!(out.iter().all(|b| *b == 0xA5), "output written beyond the text");
+        assert!(
+            out.iter().all(|b| *b == 0xA5),
+            "output written beyond the text"
+        );
         let short = r.below(TEXT_ROOM as u64) as usize;
-        t.hold(10 << 32, lent::route_text(&text, &mut out[..short]), || format!("room of {short}"));
-        assert!(out.iter().all(|b| *b == 0xA5), "output written where refused");
-        t.steps += 1;
-        t.progress("texts", count);
+        t.hold(10 << 32, raw::route_text(&text, &mut out[..short]), || {
+            format!("room of {short}")
+        });
+        assert!(
+            out.iter().all(|b| *b == 0xA5),
+            "output written where refused"
+        );
+        t.step();
     }
-    t
 }

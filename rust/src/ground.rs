@@ -1,6 +1,6 @@
 //! Masks, directions and distances.
-use crate::refusal::value;
-use crate::{lent, Point, Refusal};
+use crate::raw::{self, answers::value};
+use crate::{Point, Refusal};
 
 /// The forced mask of a neighbour mask: the directions in which something beside the cell is blocked.
 ///
@@ -9,7 +9,7 @@ use crate::{lent, Point, Refusal};
 /// assert_eq!(barnsling::forced_mask(254), 108);
 /// ```
 pub fn forced_mask(neighbours: u8) -> u8 {
-    lent::forced_mask(neighbours)
+    raw::forced_mask(neighbours)
 }
 
 /// The directions that a search follows from a cell with this neighbour mask, having come in a direction (read modulo 8).
@@ -19,7 +19,7 @@ pub fn forced_mask(neighbours: u8) -> u8 {
 /// assert_eq!(barnsling::pruned_mask(false, 2, 255), 21);
 /// ```
 pub fn pruned_mask(diagonal: bool, direction: u8, neighbours: u8) -> u8 {
-    lent::pruned_mask(diagonal, direction, neighbours)
+    raw::pruned_mask(diagonal, direction, neighbours)
 }
 
 /// The direction from one point to another, by the signs of the differences: 0 to 7, clockwise from north. Refuses POINT, SAME.
@@ -32,7 +32,7 @@ pub fn pruned_mask(diagonal: bool, direction: u8, neighbours: u8) -> u8 {
 /// assert_eq!(direction(a, a), Err(Refusal::Same(a)));
 /// ```
 pub fn direction(a: Point, b: Point) -> Result<u8, Refusal> {
-    value(lent::direction(a, b), a, b).map(|d| d as u8)
+    value(raw::direction(a, b), a, b).map(|d| d as u8)
 }
 
 /// The distance between two points on an empty floor: 70 a straight step, 99 a diagonal one. Refuses POINT.
@@ -44,7 +44,7 @@ pub fn direction(a: Point, b: Point) -> Result<u8, Refusal> {
 /// assert_eq!(distance(false, a, b), Ok(490));
 /// ```
 pub fn distance(diagonal: bool, a: Point, b: Point) -> Result<u32, Refusal> {
-    value(lent::distance(diagonal, a, b), a, b)
+    value(raw::distance(diagonal, a, b), a, b)
 }
 
 /// The distance times a factor, rounded once to an f32 and cut towards zero. Refuses SETTING, POINT.
@@ -56,5 +56,5 @@ pub fn distance(diagonal: bool, a: Point, b: Point) -> Result<u32, Refusal> {
 /// assert_eq!(scaled_distance(true, f32::NAN, a, b), Err(Refusal::Setting));
 /// ```
 pub fn scaled_distance(diagonal: bool, factor: f32, a: Point, b: Point) -> Result<u32, Refusal> {
-    value(lent::scaled_distance(diagonal, factor, a, b), a, b)
+    value(raw::scaled_distance(diagonal, factor, a, b), a, b)
 }

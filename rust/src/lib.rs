@@ -1,17 +1,22 @@
 //! Barnsling for Rust hosts: can this cart get there, and which way?
 //!
-//! Every call is proved to end, with no fault, on every input, and to answer what the written rules say. The proofs are
-//! of the archive `libboundary.a`, which this crate links; the crate itself lends it memory and names its answers.
+//! Every call of the archive `libboundary.a`, which this crate links, is proved to end, with no fault, on every input, and
+//! to answer what the written rules say. The crate itself lends it memory and names its answers; it is tested, not proved.
 //!
 //! **The rule:** once the tables have been built ([`Grid::rebuild`]), a no between two different free cells is always
-//! true. A yes may be hopeful after a gate has shut, until the tables are built again.
+//! true, as long as the diagonal setting is the one that the tables were built with. A yes may be hopeful after a gate has
+//! shut, until the tables are built again ([`Grid::update`]).
+//!
+//! **Orders that may be repeated** go through [`Grid::gate`]. The bare edit, [`Grid::set`], joins the two sides of a cell that
+//! is blocked already when it is told to block it; then a yes can be false though the grid is not dirty, and only
+//! [`Grid::rebuild`] takes it back.
 //!
 //! ```
 //! use barnsling::{Grid, Point, Refusal, Rooms};
 //!
 //! # fn main() -> Result<(), Box<dyn std::error::Error>> {
 //! // A floor of 5 by 3; a wall with one gate.
-//! let (west, gate, east) = (Point::new(0, 1), Point::new(2, 1), Point::new(4, 1));
+//! let (west, door, east) = (Point::new(0, 1), Point::new(2, 1), Point::new(4, 1));
 //! let mut floor = Grid::new(5, 3)?;
 //! floor.set(Point::new(2, 0), true)?;
 //! floor.set(Point::new(2, 2), true)?;
@@ -21,9 +26,10 @@
 //! let mut rooms = Rooms::new();
 //! let route = floor.single_goal(&mut rooms, west, east)?;
 //! assert_eq!(route.waypoints.last(), Some(&east));
+//! assert!(floor.check_route(&route.path()?)?);
 //!
 //! // The gate shuts. The yes is hopeful now; the search finds out.
-//! floor.set(gate, true)?;
+//! floor.gate(door, true)?;
 //! assert!(floor.is_dirty() && floor.reachable(west, east)?);
 //! let no = floor.single_goal(&mut rooms, west, east).unwrap_err();
 //! assert_eq!(no.refusal, Refusal::Exhausted);
@@ -31,7 +37,7 @@
 //! // After an update the no is true, and the gate's opening is seen at once.
 //! floor.update()?;
 //! assert!(!floor.reachable(west, east)?);
-//! floor.set(gate, false)?;
+//! floor.gate(door, false)?;
 //! assert!(floor.reachable(west, east)?);
 //! # Ok(())
 //! # }
@@ -39,6 +45,11 @@
 //!
 //! A [`Grid`] owns its tables, [`Rooms`] the working room of searches. A host that keeps its own memory uses [`lent`],
 //! which has each call over slices. The crate needs `alloc` and no more of the standard library.
+//!
+//! What the calls take of the stack is said in include/barnsling.h (STACK): most take little, [`route_text`] several hundred kB.
+//!
+//! No argument makes a call panic. The three calls that make a grid ([`Grid::new`], [`Grid::from_tables`], [`lent::new`]) panic
+//! if the archive that was linked is of another version than the crate.
 #![no_std]
 #![deny(missing_docs)]
 #![deny(unsafe_code)]
@@ -49,7 +60,8 @@ mod grid;
 mod ground;
 pub mod lent;
 mod point;
-mod raw;
+#[doc(hidden)]
+pub mod raw;
 mod refusal;
 mod search;
 mod settings;
@@ -63,7 +75,12 @@ pub use refusal::Refusal;
 pub use search::{Rooms, Route, SearchError};
 pub use settings::{Limits, Settings};
 pub use tables::Tables;
-pub use walks::{check_route, route_text, waypoints_to_path};
+pub use walks::{route_text, waypoints_to_path};
+
+/// The README's example is compiled as a test.
+#[cfg(doctest)]
+#[doc = include_str!("../README.md")]
+struct Readme;
 
 /// The longest side of a grid.
 ///

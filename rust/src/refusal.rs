@@ -14,6 +14,7 @@ use core::fmt;
 /// # Ok::<(), Refusal>(())
 /// ```
 #[derive(Clone, Copy, Debug, PartialEq, Eq, Hash)]
+#[non_exhaustive]
 pub enum Refusal {
     /// A new grid with a bad width or height.
     Size,
@@ -43,6 +44,8 @@ pub enum Refusal {
     List,
     /// A point out of coordinate range or, where a cell is meant, outside the grid.
     BadPoint(Point),
+    /// A number that this crate has no name for, at most 255. The archive that the crate is written for gives none.
+    Unknown(u8),
 }
 
 impl Refusal {
@@ -63,7 +66,7 @@ impl Refusal {
             13 => Refusal::List,
             14 => Refusal::BadPoint(point),
             // MAP comes as text alone
-            _ => unreachable!("the archive answered refusal {number}"),
+            _ => Refusal::Unknown(u8::try_from(number).unwrap_or(u8::MAX)),
         }
     }
 
@@ -90,6 +93,7 @@ impl Refusal {
             Refusal::Map(_) => 12,
             Refusal::List => 13,
             Refusal::BadPoint(_) => 14,
+            Refusal::Unknown(number) => number,
         }
     }
 
@@ -114,6 +118,7 @@ impl Refusal {
             Refusal::Map(_) => "MAP",
             Refusal::List => "LIST",
             Refusal::BadPoint(_) => "POINT",
+            Refusal::Unknown(_) => "UNKNOWN",
         }
     }
 }
@@ -130,7 +135,10 @@ impl fmt::Display for Refusal {
             ),
             Refusal::NoRoute => write!(f, "the tables say that there is no way"),
             Refusal::Goals => write!(f, "goals that are not 1 to 64 points"),
-            Refusal::Exhausted => write!(f, "all that the search reaches was searched, and no goal was met"),
+            Refusal::Exhausted => write!(
+                f,
+                "all that the search reaches was searched, and no goal was met"
+            ),
             Refusal::Depth => write!(f, "the depth limit was met"),
             Refusal::Fringe => write!(f, "the fringe limit was met"),
             Refusal::Pops => write!(f, "the limit of pops was met"),
@@ -143,18 +151,9 @@ impl fmt::Display for Refusal {
                 "a waypoint list that is empty or has an odd count of numbers"
             ),
             Refusal::BadPoint(p) => write!(f, "{p} is outside the grid or out of range"),
+            Refusal::Unknown(_) => write!(f, "a refusal that this crate has no name for"),
         }
     }
 }
 
 impl core::error::Error for Refusal {}
-
-/// An answer of the archive: the value, or the refusal with the one of two points that it concerns.
-pub(crate) fn value(answer: u64, first: Point, second: Point) -> Result<u32, Refusal> {
-    let high = answer >> 32;
-    if high == 0 {
-        return Ok(answer as u32);
-    }
-    let point = if high & 512 != 0 { second } else { first };
-    Err(Refusal::of(high & 255, point))
-}

@@ -1,5 +1,5 @@
 //! Searches: which way a cart goes.
-use crate::lent::{self, Answer, Room};
+use crate::lent::{self, Found, Room};
 use crate::raw::{numbers, numbers_mut};
 use crate::{Grid, Point, Refusal, MOST_SIDE};
 use alloc::vec;
@@ -17,6 +17,7 @@ use core::fmt;
 /// assert_eq!((route.pops, route.cost), (3, 140));
 /// ```
 #[derive(Clone, Debug, PartialEq, Eq)]
+#[non_exhaustive]
 pub struct Route {
     /// The pops of the search.
     pub pops: u32,
@@ -26,7 +27,8 @@ pub struct Route {
     pub waypoints: Vec<Point>,
 }
 
-/// Why there is no route, and how long the search took to find out.
+/// Why there is no route, and how long the search took to find out. What it prints has the refusal in it, so it names no
+/// source.
 ///
 /// ```
 /// use barnsling::{Grid, Point, Refusal, Rooms};
@@ -36,6 +38,7 @@ pub struct Route {
 /// assert_eq!(no.to_string(), "NO_ROUTE (4): the tables say that there is no way, after 0 pops");
 /// ```
 #[derive(Clone, Copy, Debug, PartialEq, Eq)]
+#[non_exhaustive]
 pub struct SearchError {
     /// Why.
     pub refusal: Refusal,
@@ -49,11 +52,7 @@ impl fmt::Display for SearchError {
     }
 }
 
-impl core::error::Error for SearchError {
-    fn source(&self) -> Option<&(dyn core::error::Error + 'static)> {
-        Some(&self.refusal)
-    }
-}
+impl core::error::Error for SearchError {}
 
 impl From<SearchError> for Refusal {
     fn from(e: SearchError) -> Refusal {
@@ -83,6 +82,10 @@ pub struct Rooms {
     out: Vec<Point>,
 }
 
+/// The most that a search can need: a place for each cell and one for a start outside, and the largest fringe limit.
+const MOST_CELLS: usize = MOST_SIDE * MOST_SIDE;
+const MOST_FRINGE: usize = 8_192;
+
 impl Rooms {
     /// Enough for every search: about 213 kB.
     ///
@@ -90,12 +93,13 @@ impl Rooms {
     /// assert_eq!(barnsling::Rooms::new().lend().out.len(), 8194);
     /// ```
     pub fn new() -> Rooms {
-        let cells = MOST_SIDE * MOST_SIDE;
-        Rooms::sized(cells, 8_192, cells + 1)
+        Rooms::sized(MOST_CELLS, MOST_FRINGE, MOST_CELLS + 1)
     }
 
     /// Enough for grids of so many cells, a fringe limit, and so many waypoints. A search refuses SETTING where the working
     /// room is too short, and ROOM where the waypoints do not fit.
+    ///
+    /// More than any search can use is cut to that: 4,096 cells, a fringe limit of 8,192, 4,097 waypoints.
     ///
     /// ```
     /// use barnsling::{Grid, Point, Refusal, Rooms};
@@ -107,9 +111,13 @@ impl Rooms {
     /// floor.settings_mut().limits.fringe = 16;
     /// assert_eq!(floor.single_goal(&mut rooms, a, b).unwrap_err().refusal, Refusal::Room);
     /// assert!(floor.single_goal(&mut Rooms::sized(3, 16, 3), a, b).is_ok());
+    /// let mut most = Rooms::sized(usize::MAX, usize::MAX, usize::MAX);
+    /// assert_eq!((most.lend().cost.len(), most.lend().keys.len(), most.lend().out.len()), (4097, 8192, 8194));
     /// ```
     pub fn sized(cells: usize, fringe: usize, waypoints: usize) -> Rooms {
-        let places = cells + 1;
+        let places = cells.min(MOST_CELLS) + 1;
+        let fringe = fringe.min(MOST_FRINGE);
+        let waypoints = waypoints.min(MOST_CELLS + 1);
         Rooms {
             number: vec![0; places],
             place: vec![0; places],
@@ -138,17 +146,13 @@ impl Rooms {
         }
     }
 
-    fn route(&self, a: Answer) -> Result<Route, SearchError> {
-        let pops = a.pops as u32;
-        if a.refusal != 0 {
-            let refusal = Refusal::of(a.refusal, Point::new(a.x, a.y));
-            return Err(SearchError { refusal, pops });
+    /// The route that was found, its waypoints copied out.
+    fn route(&self, found: Found) -> Route {
+        Route {
+            pops: found.pops,
+            cost: found.cost,
+            waypoints: self.out.iter().take(found.waypoints).copied().collect(),
         }
-        Ok(Route {
-            pops,
-            cost: a.cost,
-            waypoints: self.out[..a.waypoints as usize].to_vec(),
-        })
     }
 }
 
@@ -163,7 +167,7 @@ impl Grid {
     /// The way from a start to a goal.
     ///
     /// Refuses STATE, SETTING, POINT (start, then goal), NO_ROUTE where the tables say no, then EXHAUSTED, DEPTH, FRINGE,
-    /// POPS or SAME as the search meets them, and ROOM last. After a gate has shut, a hopeful yes may end in EXHAUSTED.
+    /// POPS or SAME as the search meets them, and ROOM last. A hopeful yes (see [`set`](Grid::set)) may end in EXHAUSTED.
     ///
     /// ```
     /// use barnsling::{Grid, Point, Rooms};
@@ -181,15 +185,15 @@ impl Grid {
         start: Point,
         goal: Point,
     ) -> Result<Route, SearchError> {
-        let a = lent::single_goal(
+        let found = lent::single_goal(
             self.tables.cells(),
             rooms.lend(),
             &self.settings,
             start,
             goal,
             false,
-        );
-        rooms.route(a)
+        )?;
+        Ok(rooms.route(found))
     }
 
     /// The way from a start to a cell beside a goal, which may itself be blocked: to the first that is met whose distance
@@ -211,15 +215,15 @@ impl Grid {
         start: Point,
         goal: Point,
     ) -> Result<Route, SearchError> {
-        let a = lent::single_goal(
+        let found = lent::single_goal(
             self.tables.cells(),
             rooms.lend(),
             &self.settings,
             start,
             goal,
             true,
-        );
-        rooms.route(a)
+        )?;
+        Ok(rooms.route(found))
     }
 
     /// The way from a start to the one of several goals that the search meets first. The components are not asked, so
@@ -242,13 +246,13 @@ impl Grid {
         start: Point,
         goals: &[Point],
     ) -> Result<Route, SearchError> {
-        let a = lent::multiple_goals(
+        let found = lent::multiple_goals(
             self.tables.cells(),
             rooms.lend(),
             &self.settings,
             start,
             numbers(goals),
-        );
-        rooms.route(a)
+        )?;
+        Ok(rooms.route(found))
     }
 }

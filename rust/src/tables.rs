@@ -27,7 +27,7 @@ pub struct Tables {
     pub width: usize,
     /// Rows, 1 to 64.
     pub height: usize,
-    /// Whether a gate has shut since the components were built.
+    /// Whether a gate has shut since the components were built: see [`Grid::is_dirty`](crate::Grid::is_dirty).
     pub dirty: bool,
     /// 0 for a free cell, else blocked.
     pub blocked: Vec<u8>,
@@ -87,7 +87,7 @@ impl Tables {
     /// ```
     /// use barnsling::{lent, Tables};
     /// let mut t = Tables::room(3, 2);
-    /// assert_eq!(lent::new(t.cells_mut()), 0);
+    /// assert_eq!(lent::new(t.cells_mut()), Ok(()));
     /// ```
     pub fn cells_mut(&mut self) -> CellsMut<'_> {
         CellsMut {
@@ -121,10 +121,11 @@ impl Tables {
     /// ```
     /// use barnsling::{lent, Tables};
     /// let mut t = Tables::room(2, 1);
-    /// lent::new(t.cells_mut());
+    /// lent::new(t.cells_mut())?;
     /// assert_eq!(t.parent, [0, 1]);
-    /// assert_eq!(lent::rebuild(t.links_mut(), true), 0);
+    /// assert_eq!(lent::rebuild(t.links_mut(), true), Ok(false));
     /// assert_eq!(t.parent[0], t.parent[1]);
+    /// # Ok::<(), barnsling::Refusal>(())
     /// ```
     pub fn links_mut(&mut self) -> LinksMut<'_> {
         LinksMut {

@@ -1,17 +1,9 @@
 //! Paths, route checks, map texts, and the masks of a grid's cells.
 use crate::raw::{numbers, numbers_mut};
-use crate::refusal::value;
 use crate::{lent, Grid, Point, Refusal, Route};
 use alloc::string::String;
 use alloc::vec;
 use alloc::vec::Vec;
-
-fn replied(r: lent::Reply) -> Result<usize, Refusal> {
-    if r.refusal != 0 {
-        return Err(Refusal::of(r.refusal, Point::new(r.x, r.y)));
-    }
-    Ok(r.value as usize)
-}
 
 /// Every point on the way along a waypoint list, written to the front of a room; the rest of it is kept. How many there are.
 ///
@@ -28,27 +20,12 @@ fn replied(r: lent::Reply) -> Result<usize, Refusal> {
 /// # Ok::<(), Refusal>(())
 /// ```
 pub fn waypoints_to_path(list: &[Point], room: &mut [Point]) -> Result<usize, Refusal> {
-    replied(lent::waypoints_to_path(numbers(list), numbers_mut(room)))
-}
-
-/// Whether every point of a list after the first is inside the grid and free. Refuses STATE, LIST, POINT.
-///
-/// It looks at the points of the list and at nothing between them: for every cell on the way, check [`Route::path`].
-///
-/// ```
-/// use barnsling::{check_route, Grid, Point, Refusal};
-/// let mut floor = Grid::new(3, 1)?;
-/// let list = [Point::new(0, 0), Point::new(2, 0)];
-/// assert_eq!(check_route(&floor, &list), Ok(true));
-/// floor.set(list[1], true)?;
-/// assert_eq!(check_route(&floor, &list), Ok(false));
-/// # Ok::<(), Refusal>(())
-/// ```
-pub fn check_route(grid: &Grid, list: &[Point]) -> Result<bool, Refusal> {
-    replied(lent::check_route(grid.tables.cells(), numbers(list))).map(|v| v != 0)
+    lent::waypoints_to_path(numbers(list), numbers_mut(room))
 }
 
 /// What the program `route` prints for a map text. Refuses MAP with the line, where `route` prints `result=12` and the line.
+///
+/// It keeps a grid and working room on the stack, several hundred kB (STACK in include/barnsling.h).
 ///
 /// ```
 /// use barnsling::{route_text, Refusal};
@@ -59,14 +36,13 @@ pub fn check_route(grid: &Grid, list: &[Point]) -> Result<bool, Refusal> {
 /// ```
 pub fn route_text(text: &[u8]) -> Result<String, Refusal> {
     let mut printed = vec![0; lent::TEXT_ROOM];
-    let none = Point::default();
-    let n = value(lent::route_text(text, &mut printed), none, none)?;
-    printed.truncate(n as usize);
-    let printed = String::from_utf8(printed).expect("route prints ASCII");
-    match printed.strip_prefix("result=12\nline=") {
-        Some(line) => Err(Refusal::Map(
-            line.trim_end().parse().expect("a line number"),
-        )),
+    let n = lent::route_text(text, &mut printed)?;
+    printed.truncate(n);
+    // letters, digits and signs of ASCII alone
+    let printed = String::from_utf8_lossy(&printed).into_owned();
+    let line = printed.strip_prefix("result=12\nline=");
+    match line.and_then(|n| n.trim_end().parse().ok()) {
+        Some(line) => Err(Refusal::Map(line)),
         None => Ok(printed),
     }
 }
@@ -99,8 +75,27 @@ impl Route {
     }
 }
 
-/// The masks of a cell; bit d stands for direction d.
+/// Routes checked, and the masks of a cell; bit d of a mask stands for direction d.
 impl Grid {
+    /// Whether every point of a list after the first is inside the grid and free now. Refuses STATE, LIST, POINT.
+    ///
+    /// It looks at the points of the list and at nothing between them: for every cell on the way, check [`Route::path`].
+    ///
+    /// ```
+    /// use barnsling::{Grid, Point, Rooms};
+    /// let mut floor = Grid::new(9, 1)?;
+    /// floor.rebuild()?;
+    /// let route = floor.multiple_goals(&mut Rooms::new(), Point::new(0, 0), &[Point::new(8, 0)])?;
+    /// let path = route.path()?;
+    /// assert_eq!(floor.check_route(&path), Ok(true));
+    /// floor.set(Point::new(4, 0), true)?;
+    /// assert_eq!(floor.check_route(&path), Ok(false));
+    /// # Ok::<(), barnsling::Refusal>(())
+    /// ```
+    pub fn check_route(&self, list: &[Point]) -> Result<bool, Refusal> {
+        lent::check_route(self.tables.cells(), numbers(list))
+    }
+
     /// Which neighbours of a cell are inside and free. Refuses STATE, then POINT.
     ///
     /// ```
@@ -109,7 +104,7 @@ impl Grid {
     /// # Ok::<(), barnsling::Refusal>(())
     /// ```
     pub fn neighbour_mask(&self, at: Point) -> Result<u8, Refusal> {
-        value(lent::neighbours_at(self.tables.cells(), at), at, at).map(|m| m as u8)
+        lent::neighbours_at(self.tables.cells(), at)
     }
 
     /// A cell's forced directions. Refuses STATE, then POINT.
@@ -120,7 +115,7 @@ impl Grid {
     /// # Ok::<(), barnsling::Refusal>(())
     /// ```
     pub fn forced_mask(&self, at: Point) -> Result<u8, Refusal> {
-        value(lent::forced_at(self.tables.cells(), at), at, at).map(|m| m as u8)
+        lent::forced_at(self.tables.cells(), at)
     }
 
     /// The directions that a search follows from a cell, having come to it in a direction (read modulo 8). Refuses STATE, then POINT.
@@ -131,7 +126,6 @@ impl Grid {
     /// # Ok::<(), barnsling::Refusal>(())
     /// ```
     pub fn pruned_mask(&self, at: Point, direction: u8) -> Result<u8, Refusal> {
-        let answer = lent::pruned_at(self.tables.cells(), self.settings.diagonal, at, direction);
-        value(answer, at, at).map(|m| m as u8)
+        lent::pruned_at(self.tables.cells(), self.settings.diagonal, at, direction)
     }
 }

@@ -5,10 +5,19 @@ use std::process::Command;
 #[test]
 fn prints_what_is_expected() {
     let root = Path::new(env!("CARGO_MANIFEST_DIR")).join("..");
-    let folder = std::env::var("BARNSLING_LIB_DIR").map_or(root.join("target/staticlib"), Into::into);
+    let folder =
+        std::env::var("BARNSLING_LIB_DIR").map_or(root.join("target/staticlib"), Into::into);
     let program = Path::new(env!("CARGO_TARGET_TMPDIR")).join("c_example");
     let built = Command::new("cc")
-        .args(["-std=c99", "-Wall", "-Wextra", "-Wpedantic", "-Werror", "-O2", "-I"])
+        .args([
+            "-std=c99",
+            "-Wall",
+            "-Wextra",
+            "-Wpedantic",
+            "-Werror",
+            "-O2",
+            "-I",
+        ])
         .arg(root.join("include"))
         .arg(root.join("c/example.c"))
         .arg(folder.join("libboundary.a"))

@@ -38,14 +38,10 @@ fn scaling_99_by_a_half_gives_49() {
 #[test]
 fn a_new_grid_is_joined_by_a_rebuild() {
     let (mut floor, mut rooms) = (Grid::new(2, 1).unwrap(), Rooms::new());
-    let no = floor.single_goal(&mut rooms, at(0, 0), at(1, 0));
-    assert_eq!(
-        no,
-        Err(SearchError {
-            refusal: Refusal::NoRoute,
-            pops: 0
-        })
-    );
+    let no = floor
+        .single_goal(&mut rooms, at(0, 0), at(1, 0))
+        .unwrap_err();
+    assert_eq!((no.refusal, no.pops), (Refusal::NoRoute, 0));
     floor.rebuild().unwrap();
     let route = floor.single_goal(&mut rooms, at(0, 0), at(1, 0)).unwrap();
     assert_eq!(route.pops, 2);
@@ -74,14 +70,10 @@ fn blocking_a_blocked_cell_again_joins_its_neighbours() {
     floor.set(at(1, 0), true).unwrap();
     assert_eq!(floor.component(at(0, 0)), floor.component(at(2, 0)));
     assert!(!floor.is_dirty());
-    let no = floor.single_goal(&mut Rooms::new(), at(0, 0), at(2, 0));
-    assert_eq!(
-        no,
-        Err(SearchError {
-            refusal: Refusal::Exhausted,
-            pops: 1
-        })
-    );
+    let no = floor
+        .single_goal(&mut Rooms::new(), at(0, 0), at(2, 0))
+        .unwrap_err();
+    assert_eq!((no.refusal, no.pops), (Refusal::Exhausted, 1));
 }
 
 #[test]

@@ -43,15 +43,73 @@ fn numbers_and_names() {
     }
     assert!(Refusal::BadPoint(p).to_string().contains("(-1,2)"));
     assert!(Refusal::Map(3).to_string().contains("line 3"));
-    let error: Box<dyn std::error::Error> = SearchError {
-        refusal: Refusal::Pops,
-        pops: 7,
-    }
-    .into();
+}
+
+/// An error and its sources, as reporters print them: each cause is told once.
+#[test]
+fn errors_print_once() {
+    let mut floor = open(9, 1);
+    floor.settings_mut().limits.pops = 3;
+    let no = floor
+        .single_goal(&mut Rooms::new(), at(0, 0), at(8, 0))
+        .unwrap_err();
+    let error: Box<dyn std::error::Error> = no.into();
     assert_eq!(
-        error.source().unwrap().to_string(),
-        Refusal::Pops.to_string()
+        error.to_string(),
+        "POPS (9): the limit of pops was met, after 3 pops"
     );
+    assert!(error.source().is_none());
+}
+
+/// Whatever number an archive answers, the crate gives a value or a refusal.
+#[test]
+fn numbers_without_a_name() {
+    use barnsling::raw::{answers, Answer, Reply};
+    let (a, b) = (at(1, 2), at(3, 4));
+    assert_eq!(answers::value(0xffff_ffff, a, b), Ok(u32::MAX));
+    assert_eq!(
+        answers::value((14 + 256) << 32, a, b),
+        Err(Refusal::BadPoint(a))
+    );
+    assert_eq!(
+        answers::value((14 + 512) << 32, a, b),
+        Err(Refusal::BadPoint(b))
+    );
+    assert_eq!(answers::value(11 << 32, a, b), Err(Refusal::Same(a)));
+    for number in [0, 12, 15, 99, 255] {
+        let no = answers::value((256 + number) << 32, a, b).unwrap_err();
+        assert_eq!(no, Refusal::Unknown(number as u8));
+        assert_eq!(
+            (no.number(), no.name(), no.to_string()),
+            (
+                number as u8,
+                "UNKNOWN",
+                format!("UNKNOWN ({number}): a refusal that this crate has no name for")
+            )
+        );
+    }
+    assert!(answers::value(u64::MAX, a, b).is_err());
+    let reply = Reply {
+        refusal: u64::MAX,
+        value: u64::MAX,
+        x: 0,
+        y: 0,
+    };
+    assert_eq!(answers::listed(reply), Err(Refusal::Unknown(255)));
+    let mut answer = Answer {
+        refusal: 256,
+        pops: u64::MAX,
+        waypoints: u64::MAX,
+        cost: u64::MAX,
+        x: 0,
+        y: 0,
+    };
+    assert_eq!(
+        answers::found(answer).unwrap_err().refusal,
+        Refusal::Unknown(255)
+    );
+    answer.refusal = 0;
+    assert_eq!(answers::found(answer).unwrap().cost, u64::MAX);
 }
 
 #[test]
@@ -80,7 +138,10 @@ fn no_grid(tables: Tables) {
             .refusal,
         Refusal::State
     );
-    floor.is_blocked(a);
+    assert_eq!(floor.is_blocked(b), Err(Refusal::State));
+    assert_eq!(floor.gate(b, true), Err(Refusal::State));
+    assert_eq!(floor.gate(b, false), Err(Refusal::State));
+    assert_eq!(floor.check_route(&[]), Err(Refusal::State));
     assert_eq!(floor.into_tables(), tables);
 }
 
@@ -127,7 +188,14 @@ fn state() {
         rank: good.rank[..5].to_vec(),
         ..good.clone()
     });
-    // a table that only some calls read
+    // tables that only some calls read
+    let short = Grid::from_tables(Tables {
+        blocked: good.blocked[..5].to_vec(),
+        ..good.clone()
+    });
+    assert_eq!(short.is_blocked(at(0, 0)), Err(Refusal::State));
+    assert_eq!(short.check_route(&[at(0, 0)]), Err(Refusal::State));
+    assert_eq!(short.reachable(at(0, 0), at(2, 1)), Ok(true));
     let short = Grid::from_tables(Tables {
         forced: good.forced[..5].to_vec(),
         ..good.clone()
@@ -157,34 +225,19 @@ fn setting() {
     }
     let largest = Limits::default();
     for limits in [
-        Limits {
-            depth: 65,
-            ..largest
-        },
-        Limits { pops: 0, ..largest },
-        Limits {
-            pops: 65_536,
-            ..largest
-        },
-        Limits {
-            fringe: 0,
-            ..largest
-        },
-        Limits {
-            fringe: 8_193,
-            ..largest
-        },
+        largest.with_depth(65),
+        largest.with_pops(0),
+        largest.with_pops(65_536),
+        largest.with_fringe(0),
+        largest.with_fringe(8_193),
+        largest.with_depth(usize::MAX),
+        largest.with_pops(usize::MAX),
+        largest.with_fringe(usize::MAX),
     ] {
-        *floor.settings_mut() = Settings {
-            limits,
-            ..Settings::default()
-        };
+        *floor.settings_mut() = Settings::default().with_limits(limits);
         assert_eq!(search(&floor, at(0, 0), far), Refusal::Setting);
     }
-    *floor.settings_mut() = Settings {
-        factor: -0.0,
-        ..Settings::default()
-    };
+    *floor.settings_mut() = Settings::default().with_factor(-0.0);
     assert!(floor
         .single_goal(&mut Rooms::new(), at(0, 0), at(2, 0))
         .is_ok());
@@ -219,7 +272,7 @@ fn goals() {
         far,
         &[1, 0, 2],
     );
-    assert_eq!(odd.refusal, 5);
+    assert_eq!(odd.unwrap_err().refusal, Refusal::Goals);
 }
 
 #[test]
@@ -234,21 +287,9 @@ fn depth_fringe_and_pops() {
     let mut floor = open(9, 9);
     let largest = Limits::default();
     for (limits, refusal) in [
-        (
-            Limits {
-                depth: 0,
-                ..largest
-            },
-            Refusal::Depth,
-        ),
-        (
-            Limits {
-                fringe: 1,
-                ..largest
-            },
-            Refusal::Fringe,
-        ),
-        (Limits { pops: 1, ..largest }, Refusal::Pops),
+        (largest.with_depth(0), Refusal::Depth),
+        (largest.with_fringe(1), Refusal::Fringe),
+        (largest.with_pops(1), Refusal::Pops),
     ] {
         floor.settings_mut().limits = limits;
         assert_eq!(search(&floor, at(0, 0), at(8, 5)), refusal);
@@ -262,6 +303,32 @@ fn room() {
         .single_goal(&mut Rooms::sized(3, 8_192, 2), at(0, 0), at(2, 0))
         .unwrap_err();
     assert_eq!((no.refusal, no.pops), (Refusal::Room, 3));
+}
+
+/// More room than any search can use is cut; none at all is refused.
+#[test]
+fn rooms_of_any_size() {
+    let mut floor = open(3, 1);
+    let (a, b) = (at(0, 0), at(2, 0));
+    let mut most = Rooms::sized(usize::MAX, usize::MAX, usize::MAX);
+    assert_eq!(most.lend().number.len(), 4_097);
+    assert_eq!(most.lend().idx.len(), 8_192);
+    assert_eq!(most.lend().out.len(), 8_194);
+    assert!(floor.single_goal(&mut most, a, b).is_ok());
+    let mut none = Rooms::sized(0, 0, 0);
+    let no = floor.single_goal(&mut none, a, b).unwrap_err();
+    assert_eq!(no.refusal, Refusal::Setting);
+    // exactly what is needed, and one less of each
+    floor.settings_mut().limits.fringe = 9;
+    for (cells, fringe, waypoints, refused) in [
+        (3, 9, 3, None),
+        (2, 9, 3, Some(Refusal::Setting)),
+        (3, 8, 3, Some(Refusal::Setting)),
+        (3, 9, 2, Some(Refusal::Room)),
+    ] {
+        let got = floor.single_goal(&mut Rooms::sized(cells, fringe, waypoints), a, b);
+        assert_eq!(got.err().map(|no| no.refusal), refused);
+    }
 }
 
 #[test]
@@ -280,7 +347,8 @@ fn bad_point() {
     for p in [at(3, 0), at(0, 2), at(-1, 0), at(i32::MIN, i32::MAX)] {
         assert_eq!(floor.set(p, true), Err(Refusal::BadPoint(p)));
         assert_eq!(floor.component(p), Err(Refusal::BadPoint(p)));
-        assert_eq!(floor.is_blocked(p), None);
+        assert_eq!(floor.is_blocked(p), Err(Refusal::BadPoint(p)));
+        assert_eq!(floor.gate(p, true), Err(Refusal::BadPoint(p)));
     }
     for (start, goal, bad) in [
         (far, a, far),

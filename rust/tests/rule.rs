@@ -1,5 +1,6 @@
 //! The dispatcher's rule, held against a flood fill over random floors and gates: a no is true, and a yes is true
-//! unless a gate has shut since the rebuild. Found routes are walked.
+//! unless a gate has shut since the rebuild. Found routes are walked. Then orders that are given twice: what the bare edit
+//! makes of them, and that `gate` makes nothing of them.
 use barnsling::{Grid, Point, Refusal, Rooms};
 
 struct Rng(u64);
@@ -16,7 +17,7 @@ impl Rng {
 }
 
 fn free(floor: &Grid, p: Point) -> bool {
-    floor.is_blocked(p) == Some(false)
+    floor.is_blocked(p) == Ok(false)
 }
 
 /// The free cells that moves over free cells reach.
@@ -121,4 +122,91 @@ fn a_no_is_true_and_a_yes_may_be_hopeful() {
             }
         }
     }
+}
+
+/// 3 by 1, and the gate in the middle: the bare edit repeated makes a yes that an update leaves and a rebuild takes back.
+#[test]
+fn an_order_to_block_that_is_given_twice() {
+    let (west, middle, east) = (Point::new(0, 0), Point::new(1, 0), Point::new(2, 0));
+    let (mut floor, mut rooms) = (Grid::new(3, 1).unwrap(), Rooms::new());
+    floor.set(middle, true).unwrap();
+    floor.rebuild().unwrap();
+    assert_eq!(floor.reachable(west, east), Ok(false));
+    floor.set(middle, true).unwrap();
+    for _ in 0..2 {
+        assert_eq!(floor.reachable(west, east), Ok(true));
+        assert!(!floor.is_dirty());
+        let no = floor.single_goal(&mut rooms, west, east).unwrap_err();
+        assert_eq!(no.refusal, Refusal::Exhausted);
+        floor.update().unwrap();
+    }
+    floor.rebuild().unwrap();
+    assert_eq!(floor.reachable(west, east), Ok(false));
+
+    // the same by `gate`, and nothing happens
+    let before = floor.clone();
+    assert_eq!(floor.gate(middle, true), Ok(false));
+    assert_eq!(floor, before);
+    assert_eq!(floor.gate(middle, false), Ok(true));
+    assert_eq!(floor.reachable(west, east), Ok(true));
+    assert_eq!(floor.gate(middle, false), Ok(false));
+    assert_eq!(floor.gate(middle, true), Ok(true));
+    assert!(floor.is_dirty());
+}
+
+/// The answers between two different free cells that a flood fill does not give: false yeses and false noes.
+fn false_answers(floor: &Grid) -> (usize, usize) {
+    let (w, h) = (floor.width() as i32, floor.height() as i32);
+    let all = (0..w * h).map(|i| Point::new(i % w, i / w));
+    let cells: Vec<Point> = all.filter(|p| free(floor, *p)).collect();
+    let (mut yeses, mut noes) = (0, 0);
+    for a in &cells {
+        let joined = reached(floor, *a);
+        for b in cells.iter().filter(|b| *b != a) {
+            match (floor.reachable(*a, *b).unwrap(), joined.contains(b)) {
+                (true, false) => yeses += 1,
+                (false, true) => noes += 1,
+                _ => {}
+            }
+        }
+    }
+    (yeses, noes)
+}
+
+/// The same orders, many of them repeated, by `gate` and by the bare edit.
+#[test]
+fn repeated_orders() {
+    let mut r = Rng(7);
+    let (mut repeated, mut by_set) = (0, 0);
+    for round in 0..150 {
+        let (w, h) = (1 + r.below(7) as i32, 1 + r.below(7) as i32);
+        let mut floor = Grid::new(w as usize, h as usize).unwrap();
+        floor.settings_mut().diagonal = round % 2 == 0;
+        floor.rebuild().unwrap();
+        let mut bare = floor.clone();
+        for order in 0..40 {
+            let (p, shut) = (r.point(w, h), r.below(100) < 55);
+            repeated += !floor.gate(p, shut).unwrap() as usize;
+            bare.set(p, shut).unwrap();
+            assert_eq!(floor.tables().blocked, bare.tables().blocked);
+            if order % 4 == 3 {
+                assert_eq!(false_answers(&floor).1, 0);
+                floor.update().unwrap();
+                bare.update().unwrap();
+                assert_eq!(false_answers(&floor), (0, 0));
+            }
+            if order % 4 == 1 && !floor.is_dirty() {
+                assert_eq!(false_answers(&floor), (0, 0));
+            }
+            if order % 8 == 7 {
+                let (yeses, noes) = false_answers(&bare);
+                assert!(noes == 0 && !bare.is_dirty());
+                by_set += yeses;
+            }
+        }
+        bare.rebuild().unwrap();
+        assert_eq!(false_answers(&bare), (0, 0));
+    }
+    assert!(repeated > 1_000, "{repeated} orders were repeated");
+    assert!(by_set > 100, "{by_set} false yeses of the bare edit");
 }

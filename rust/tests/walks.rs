@@ -29,36 +29,66 @@ fn paths() {
         Err(Refusal::Room)
     );
     assert_eq!(room, before);
-    assert_eq!(lent::waypoints_to_path(&[0, 0, 1], &mut [0; 9]).refusal, 13);
-    // longer than the first room that is made
-    let long = Route {
-        pops: 0,
-        cost: 0,
-        waypoints: vec![at(-1024, 0), at(1023, 0), at(-1024, 9)],
-    };
-    assert_eq!(long.path().unwrap().len(), 4095);
+    assert_eq!(
+        lent::waypoints_to_path(&[0, 0, 1], &mut [0; 9]),
+        Err(Refusal::List)
+    );
+    assert_eq!(
+        waypoints_to_path(&[at(i32::MIN, i32::MAX)], &mut []),
+        Err(Refusal::BadPoint(at(i32::MIN, i32::MAX)))
+    );
+}
+
+/// A way to and fro through the whole floor, longer than the first room that `path` makes; and lists that no search gave.
+#[test]
+fn long_paths() {
+    let mut floor = Grid::new(64, 64).unwrap();
+    floor.settings_mut().diagonal = false;
+    for y in (1..64).step_by(2) {
+        for x in 0..64 {
+            let gap = if y % 4 == 1 { 63 } else { 0 };
+            floor.gate(at(x, y), x != gap).unwrap();
+        }
+    }
+    floor.rebuild().unwrap();
+    let mut route = floor
+        .single_goal(&mut Rooms::new(), at(0, 0), at(0, 62))
+        .unwrap();
+    let path = route.path().unwrap();
+    assert_eq!((path[0], path.last()), (at(0, 0), Some(&at(0, 62))));
+    assert_eq!(path.len(), 32 * 64 + 31);
+    assert_eq!(floor.check_route(&path), Ok(true));
+    assert_eq!(floor.gate(path[1_000], true), Ok(true));
+    assert_eq!(floor.check_route(&path), Ok(false));
+
+    route.waypoints = vec![at(-1024, 0), at(1023, 0), at(-1024, 9)];
+    assert_eq!(route.path().unwrap().len(), 4_095);
+    route.waypoints = vec![at(0, 0), at(0, 1024)];
+    assert_eq!(route.path(), Err(Refusal::BadPoint(at(0, 1024))));
+    route.waypoints.clear();
+    assert_eq!(route.path(), Err(Refusal::List));
 }
 
 #[test]
 fn checks() {
     let mut floor = Grid::new(3, 2).unwrap();
     let list = [at(0, 0), at(1, 1), at(2, 0)];
-    assert_eq!(check_route(&floor, &list), Ok(true));
+    assert_eq!(floor.check_route(&list), Ok(true));
     floor.set(at(0, 0), true).unwrap();
-    assert_eq!(check_route(&floor, &list), Ok(true));
+    assert_eq!(floor.check_route(&list), Ok(true));
     floor.set(at(1, 1), true).unwrap();
-    assert_eq!(check_route(&floor, &list), Ok(false));
-    assert_eq!(check_route(&floor, &[at(5, 5)]), Ok(true));
-    assert_eq!(check_route(&floor, &[at(0, 0), at(3, 0)]), Ok(false));
-    assert_eq!(check_route(&floor, &[]), Err(Refusal::List));
+    assert_eq!(floor.check_route(&list), Ok(false));
+    assert_eq!(floor.check_route(&[at(5, 5)]), Ok(true));
+    assert_eq!(floor.check_route(&[at(0, 0), at(3, 0)]), Ok(false));
+    assert_eq!(floor.check_route(&[]), Err(Refusal::List));
     assert_eq!(
-        check_route(&floor, &[at(0, 1024)]),
+        floor.check_route(&[at(0, 1024)]),
         Err(Refusal::BadPoint(at(0, 1024)))
     );
     let mut tables = floor.into_tables();
     tables.rank[0] = 201;
     assert_eq!(
-        check_route(&Grid::from_tables(tables), &[]),
+        Grid::from_tables(tables).check_route(&[]),
         Err(Refusal::State)
     );
 }
@@ -105,7 +135,11 @@ fn texts() {
     }
     assert_eq!(route_text(&[b'x'; 8_193]), Err(Refusal::Map(0)));
     assert_eq!(
-        lent::route_text(text.as_bytes(), &mut [0; 82_099]),
-        10 << 32
+        lent::route_text(text.as_bytes(), &mut [0; lent::TEXT_ROOM - 1]),
+        Err(Refusal::Room)
     );
+    // bytes of every kind, and none
+    assert_eq!(route_text(&[]), Err(Refusal::Map(1)));
+    let any: Vec<u8> = (0..=255).collect();
+    assert_eq!(route_text(&any), Err(Refusal::Map(1)));
 }

@@ -1,21 +1,29 @@
-//! The archive's functions, each as a safe one. The only unsafe code of the crate.
+//! The archive's functions, each as a safe one that answers what crosses the boundary. The only unsafe code of the crate.
+//!
+//! [`lent`](crate::lent) and [`Grid`](crate::Grid) are the crate's face, and this is none of it: it may change with any
+//! version. It can be reached so that `compare/` sees what the archive answers, number by number.
 //!
 //! Why the calls are safe: a slice crosses as its own pointer and length, for the time of the call; what is lent to be
 //! changed is borrowed by this call alone; and each function is proved to read and write nothing else, for every length,
 //! contents and number. The declarations are those of include/barnsling.h.
+//!
+//! **Answers.** A `u64` is the value, which is below 2^32, or 2^32 times a refusal's number. Where a call takes two points
+//! and refuses POINT, 2^32 times 256 more if the first is concerned, 512 more if the second. [`answers`] unpacks them.
 #![allow(unsafe_code)]
 
 use crate::lent::{Cells, CellsMut, Links, LinksMut, Room};
 use crate::{Point, Settings};
 
+pub mod answers;
 mod paths;
 pub use paths::{
-    check_route, forced_at, neighbours_at, pruned_at, route_text, waypoints_to_path, Reply,
-    TEXT_ROOM,
+    blocked_at, check_route, forced_at, neighbours_at, pruned_at, route_text, waypoints_to_path,
+    Reply,
 };
 
 #[rustfmt::skip]
 extern "C" {
+    fn barnsling_version() -> u32;
     fn barnsling_forced_mask(neighbours: u8) -> u8;
     fn barnsling_pruned_mask(diagonal: u8, direction: u8, neighbours: u8) -> u8;
     fn barnsling_direction(ax: i32, ay: i32, bx: i32, by: i32) -> u64;
@@ -78,15 +86,6 @@ extern "C" {
 }
 
 /// What a search answers, as numbers.
-///
-/// ```
-/// use barnsling::{lent, Grid, Point, Rooms, Settings};
-/// let floor = Grid::new(2, 1).unwrap();
-/// let (a, b) = (Point::new(0, 0), Point::new(1, 0));
-/// let answer = lent::single_goal(floor.tables().cells(), Rooms::new().lend(), &Settings::default(), a, b, false);
-/// // nothing is joined yet: NO_ROUTE
-/// assert_eq!((answer.refusal, answer.pops, answer.waypoints), (4, 0, 0));
-/// ```
 #[repr(C)]
 #[derive(Clone, Copy, Debug, PartialEq, Eq)]
 pub struct Answer {
@@ -106,7 +105,7 @@ pub struct Answer {
 
 /// The numbers of a list of points, x and y in turn.
 pub(crate) fn numbers(list: &[Point]) -> &[i32] {
-    // SAFETY: a Point is two i32 in order, by repr(C), and nothing else.
+    // SAFETY: a Point is two i32 in order, by repr(C), and nothing else; so twice the length is below usize::MAX, too.
     unsafe { core::slice::from_raw_parts(list.as_ptr().cast(), 2 * list.len()) }
 }
 
@@ -116,73 +115,44 @@ pub(crate) fn numbers_mut(list: &mut [Point]) -> &mut [i32] {
     unsafe { core::slice::from_raw_parts_mut(list.as_mut_ptr().cast(), 2 * list.len()) }
 }
 
+/// The archive's version.
+#[inline]
+pub fn version() -> u32 {
+    // SAFETY: numbers alone; see the head of this file. So for the next five.
+    unsafe { barnsling_version() }
+}
+
 /// See [`forced_mask`](crate::forced_mask).
-///
-/// ```
-/// assert_eq!(barnsling::lent::forced_mask(254), 108);
-/// ```
 #[inline]
 pub fn forced_mask(neighbours: u8) -> u8 {
-    // SAFETY: numbers alone; see the head of this file. So for the next four.
     unsafe { barnsling_forced_mask(neighbours) }
 }
 
 /// See [`pruned_mask`](crate::pruned_mask).
-///
-/// ```
-/// assert_eq!(barnsling::lent::pruned_mask(true, 1, 239), 15);
-/// ```
 #[inline]
 pub fn pruned_mask(diagonal: bool, direction: u8, neighbours: u8) -> u8 {
     unsafe { barnsling_pruned_mask(diagonal as u8, direction, neighbours) }
 }
 
 /// See [`direction`](crate::direction). Refuses POINT, SAME.
-///
-/// ```
-/// use barnsling::{lent, Point};
-/// assert_eq!(lent::direction(Point::new(0, 0), Point::new(5, 0)), 2);
-/// assert_eq!(lent::direction(Point::new(0, 0), Point::new(0, 1024)), (14 + 512) << 32);
-/// ```
 #[inline]
 pub fn direction(a: Point, b: Point) -> u64 {
     unsafe { barnsling_direction(a.x, a.y, b.x, b.y) }
 }
 
 /// See [`distance`](crate::distance). Refuses POINT.
-///
-/// ```
-/// use barnsling::{lent, Point};
-/// assert_eq!(lent::distance(true, Point::new(0, 0), Point::new(5, 2)), 408);
-/// ```
 #[inline]
 pub fn distance(diagonal: bool, a: Point, b: Point) -> u64 {
     unsafe { barnsling_distance(diagonal as u8, a.x, a.y, b.x, b.y) }
 }
 
 /// See [`scaled_distance`](crate::scaled_distance). Refuses SETTING, POINT.
-///
-/// ```
-/// use barnsling::{lent, Point};
-/// assert_eq!(lent::scaled_distance(true, 0.5, Point::new(0, 0), Point::new(1, 1)), 49);
-/// ```
 #[inline]
 pub fn scaled_distance(diagonal: bool, factor: f32, a: Point, b: Point) -> u64 {
     unsafe { barnsling_scaled_distance(factor, diagonal as u8, a.x, a.y, b.x, b.y) }
 }
 
 /// A new grid: all cells free, each its own component. Answers 0. Refuses SIZE, then STATE where a table is too short.
-///
-/// ```
-/// use barnsling::{lent, Tables};
-/// let mut t = Tables::room(3, 1);
-/// assert_eq!(lent::new(t.cells_mut()), 0);
-/// assert_eq!(t.parent, [0, 1, 2]);
-/// t.width = 4;
-/// assert_eq!(lent::new(t.cells_mut()), 2 << 32);
-/// t.width = 65;
-/// assert_eq!(lent::new(t.cells_mut()), 1 << 32);
-/// ```
 #[inline]
 pub fn new(t: CellsMut<'_>) -> u64 {
     // SAFETY: see the head of this file. So for all that follow.
@@ -205,15 +175,6 @@ pub fn new(t: CellsMut<'_>) -> u64 {
 }
 
 /// Blocks or frees a cell; answers the dirty mark afterwards, 0 or 1. Refuses STATE, then POINT.
-///
-/// ```
-/// use barnsling::{lent, Point, Tables};
-/// let mut t = Tables::room(3, 1);
-/// lent::new(t.cells_mut());
-/// assert_eq!(lent::set(t.cells_mut(), true, false, Point::new(1, 0), true), 1);
-/// assert_eq!(t.blocked, [0, 1, 0]);
-/// assert_eq!(lent::set(t.cells_mut(), true, true, Point::new(3, 0), true), 14 << 32);
-/// ```
 #[inline]
 pub fn set(t: CellsMut<'_>, diagonal: bool, dirty: bool, at: Point, block: bool) -> u64 {
     unsafe {
@@ -240,14 +201,6 @@ pub fn set(t: CellsMut<'_>, diagonal: bool, dirty: bool, at: Point, block: bool)
 }
 
 /// The components anew from the blocked cells alone; answers 0, the dirty mark afterwards. Refuses STATE.
-///
-/// ```
-/// use barnsling::{lent, Tables};
-/// let mut t = Tables::room(2, 1);
-/// lent::new(t.cells_mut());
-/// assert_eq!(lent::rebuild(t.links_mut(), true), 0);
-/// assert_eq!(t.parent, [0, 0]);
-/// ```
 #[inline]
 pub fn rebuild(t: LinksMut<'_>, diagonal: bool) -> u64 {
     unsafe {
@@ -266,16 +219,6 @@ pub fn rebuild(t: LinksMut<'_>, diagonal: bool) -> u64 {
 }
 
 /// [`rebuild`] where dirty; answers 0, the dirty mark afterwards. Refuses STATE.
-///
-/// ```
-/// use barnsling::{lent, Tables};
-/// let mut t = Tables::room(2, 1);
-/// lent::new(t.cells_mut());
-/// assert_eq!(lent::update(t.links_mut(), true, false), 0);
-/// assert_eq!(t.parent, [0, 1]);
-/// assert_eq!(lent::update(t.links_mut(), true, true), 0);
-/// assert_eq!(t.parent, [0, 0]);
-/// ```
 #[inline]
 pub fn update(t: LinksMut<'_>, diagonal: bool, dirty: bool) -> u64 {
     unsafe {
@@ -295,13 +238,6 @@ pub fn update(t: LinksMut<'_>, diagonal: bool, dirty: bool) -> u64 {
 }
 
 /// The component of a cell. Refuses STATE, then POINT.
-///
-/// ```
-/// use barnsling::{lent, Point, Tables};
-/// let mut t = Tables::room(2, 1);
-/// lent::new(t.cells_mut());
-/// assert_eq!(lent::component(t.links(), Point::new(1, 0)), 1);
-/// ```
 #[inline]
 pub fn component(t: Links<'_>, at: Point) -> u64 {
     unsafe {
@@ -319,16 +255,6 @@ pub fn component(t: Links<'_>, at: Point) -> u64 {
 }
 
 /// Whether two points share a component, 0 or 1: no where one is outside. Refuses STATE, then POINT.
-///
-/// ```
-/// use barnsling::{lent, Point, Tables};
-/// let mut t = Tables::room(2, 1);
-/// lent::new(t.cells_mut());
-/// lent::rebuild(t.links_mut(), true);
-/// assert_eq!(lent::reachable(t.links(), Point::new(0, 0), Point::new(1, 0)), 1);
-/// assert_eq!(lent::reachable(t.links(), Point::new(0, 0), Point::new(2, 0)), 0);
-/// assert_eq!(lent::reachable(t.links(), Point::new(0, 0), Point::new(2000, 0)), (14 + 512) << 32);
-/// ```
 #[inline]
 pub fn reachable(t: Links<'_>, start: Point, goal: Point) -> u64 {
     unsafe {
@@ -348,13 +274,6 @@ pub fn reachable(t: Links<'_>, start: Point, goal: Point) -> u64 {
 }
 
 /// Whether they do not: yes where one is outside. Refuses STATE, then POINT.
-///
-/// ```
-/// use barnsling::{lent, Point, Tables};
-/// let mut t = Tables::room(2, 1);
-/// lent::new(t.cells_mut());
-/// assert_eq!(lent::unreachable(t.links(), Point::new(0, 0), Point::new(1, 0)), 1);
-/// ```
 #[inline]
 pub fn unreachable(t: Links<'_>, start: Point, goal: Point) -> u64 {
     unsafe {
@@ -374,13 +293,6 @@ pub fn unreachable(t: Links<'_>, start: Point, goal: Point) -> u64 {
 }
 
 /// Whether some inside neighbour of the goal shares the start's component: yes where one is outside. Refuses STATE, then POINT.
-///
-/// ```
-/// use barnsling::{lent, Point, Tables};
-/// let mut t = Tables::room(2, 1);
-/// lent::new(t.cells_mut());
-/// assert_eq!(lent::neighbours_reachable(t.links(), true, Point::new(0, 0), Point::new(1, 0)), 1);
-/// ```
 #[inline]
 pub fn neighbours_reachable(t: Links<'_>, diagonal: bool, start: Point, goal: Point) -> u64 {
     unsafe {
@@ -401,13 +313,6 @@ pub fn neighbours_reachable(t: Links<'_>, diagonal: bool, start: Point, goal: Po
 }
 
 /// Whether none does: yes, too, where one is outside. Refuses STATE, then POINT.
-///
-/// ```
-/// use barnsling::{lent, Point, Tables};
-/// let mut t = Tables::room(2, 1);
-/// lent::new(t.cells_mut());
-/// assert_eq!(lent::neighbours_unreachable(t.links(), true, Point::new(0, 0), Point::new(1, 0)), 0);
-/// ```
 #[inline]
 pub fn neighbours_unreachable(t: Links<'_>, diagonal: bool, start: Point, goal: Point) -> u64 {
     unsafe {
@@ -429,18 +334,6 @@ pub fn neighbours_unreachable(t: Links<'_>, diagonal: bool, start: Point, goal: 
 
 /// The waypoints from a start to a goal, or approximately to it, in `room.out`.
 /// Refuses STATE, SETTING, POINT, NO_ROUTE, then EXHAUSTED, DEPTH, FRINGE, POPS or SAME as met, ROOM last; a refusal writes no output.
-///
-/// ```
-/// use barnsling::{lent, Point, Rooms, Settings, Tables};
-/// let mut t = Tables::room(2, 1);
-/// lent::new(t.cells_mut());
-/// lent::rebuild(t.links_mut(), true);
-/// let mut rooms = Rooms::new();
-/// let (a, b) = (Point::new(0, 0), Point::new(1, 0));
-/// let answer = lent::single_goal(t.cells(), rooms.lend(), &Settings::default(), a, b, false);
-/// assert_eq!((answer.refusal, answer.pops, answer.waypoints), (0, 2, 2));
-/// assert_eq!(rooms.lend().out[..4], [0, 0, 1, 0]);
-/// ```
 #[inline]
 pub fn single_goal(
     t: Cells<'_>,
@@ -495,17 +388,6 @@ pub fn single_goal(
 
 /// The waypoints from a start to one of several goals, given as x and y in turn, in `room.out`.
 /// Refuses STATE, SETTING, GOALS, POINT, then as [`single_goal`] does, but never NO_ROUTE.
-///
-/// ```
-/// use barnsling::{lent, Point, Rooms, Settings, Tables};
-/// let mut t = Tables::room(2, 1);
-/// lent::new(t.cells_mut());
-/// let (mut rooms, settings) = (Rooms::new(), Settings::default());
-/// let answer = lent::multiple_goals(t.cells(), rooms.lend(), &settings, Point::new(0, 0), &[9, 9, 1, 0]);
-/// assert_eq!((answer.refusal, answer.waypoints), (0, 2));
-/// let odd = lent::multiple_goals(t.cells(), rooms.lend(), &settings, Point::new(0, 0), &[9, 9, 1]);
-/// assert_eq!(odd.refusal, 5);
-/// ```
 #[inline]
 pub fn multiple_goals(
     t: Cells<'_>,

@@ -1,9 +1,13 @@
-//! The calls on waypoint lists, map texts and the masks of a cell. As the head of `raw` says.
+//! The calls on waypoint lists and map texts, and those on one cell's entries. As the head of `raw` says.
 use crate::lent::Cells;
 use crate::Point;
 
 #[rustfmt::skip]
 extern "C" {
+    fn barnsling_blocked_at(
+        blocked: *const u8, blocked_len: usize, parent: *const u16, parent_len: usize, rank: *const u8, rank_len: usize,
+        width: usize, height: usize, x: i32, y: i32,
+    ) -> u64;
     fn barnsling_neighbours_at(
         neighbours: *const u8, neighbours_len: usize, parent: *const u16, parent_len: usize, rank: *const u8, rank_len: usize,
         width: usize, height: usize, x: i32, y: i32,
@@ -24,22 +28,7 @@ extern "C" {
     fn barnsling_route_text(text: *const u8, text_len: usize, out: *mut u8, out_len: usize) -> u64;
 }
 
-/// The bytes of room that [`route_text`] wants.
-///
-/// ```
-/// use barnsling::lent;
-/// assert_eq!(lent::route_text(b"", &mut vec![0; lent::TEXT_ROOM - 1]), 10 << 32);
-/// assert!(lent::route_text(b"", &mut vec![0; lent::TEXT_ROOM]) < 1 << 32);
-/// ```
-pub const TEXT_ROOM: usize = 82_100;
-
 /// An answer that may be about a point, as numbers.
-///
-/// ```
-/// use barnsling::lent;
-/// let reply = lent::waypoints_to_path(&[0, 0, 5000, 1], &mut [0; 9]);
-/// assert_eq!(reply, lent::Reply { refusal: 14, value: 0, x: 5000, y: 1 });
-/// ```
 #[repr(C)]
 #[derive(Clone, Copy, Debug, PartialEq, Eq)]
 pub struct Reply {
@@ -53,14 +42,26 @@ pub struct Reply {
     pub y: i32,
 }
 
+/// Whether a cell is blocked, 0 or 1. Refuses STATE, then POINT.
+#[inline]
+pub fn blocked_at(t: Cells<'_>, at: Point) -> u64 {
+    unsafe {
+        barnsling_blocked_at(
+            t.blocked.as_ptr(),
+            t.blocked.len(),
+            t.parent.as_ptr(),
+            t.parent.len(),
+            t.rank.as_ptr(),
+            t.rank.len(),
+            t.width,
+            t.height,
+            at.x,
+            at.y,
+        )
+    }
+}
+
 /// The neighbour mask of a cell. Refuses STATE, then POINT.
-///
-/// ```
-/// use barnsling::{lent, Grid, Point};
-/// let floor = Grid::new(2, 1).unwrap();
-/// assert_eq!(lent::neighbours_at(floor.tables().cells(), Point::new(0, 0)), 4);
-/// assert_eq!(lent::neighbours_at(floor.tables().cells(), Point::new(2, 0)), 14 << 32);
-/// ```
 #[inline]
 pub fn neighbours_at(t: Cells<'_>, at: Point) -> u64 {
     unsafe {
@@ -80,12 +81,6 @@ pub fn neighbours_at(t: Cells<'_>, at: Point) -> u64 {
 }
 
 /// The forced mask of a cell. Refuses STATE, then POINT.
-///
-/// ```
-/// use barnsling::{lent, Grid, Point};
-/// let floor = Grid::new(1, 1).unwrap();
-/// assert_eq!(lent::forced_at(floor.tables().cells(), Point::new(0, 0)), 255);
-/// ```
 #[inline]
 pub fn forced_at(t: Cells<'_>, at: Point) -> u64 {
     unsafe {
@@ -105,12 +100,6 @@ pub fn forced_at(t: Cells<'_>, at: Point) -> u64 {
 }
 
 /// The pruned mask of a cell for travel in a direction, read modulo 8. Refuses STATE, then POINT.
-///
-/// ```
-/// use barnsling::{lent, Grid, Point};
-/// let floor = Grid::new(3, 3).unwrap();
-/// assert_eq!(lent::pruned_at(floor.tables().cells(), true, Point::new(1, 1), 1), 7);
-/// ```
 #[inline]
 pub fn pruned_at(t: Cells<'_>, diagonal: bool, at: Point, direction: u8) -> u64 {
     unsafe {
@@ -132,27 +121,12 @@ pub fn pruned_at(t: Cells<'_>, diagonal: bool, at: Point, direction: u8) -> u64 
 }
 
 /// The path along a waypoint list, x and y in turn: `value` points are written, the rest of the room is kept. Refuses LIST, POINT, ROOM.
-///
-/// ```
-/// use barnsling::lent;
-/// let mut out = [-1; 8];
-/// assert_eq!(lent::waypoints_to_path(&[0, 0, 2, 1], &mut out).value, 3);
-/// assert_eq!(out, [0, 0, 1, 1, 2, 1, -1, -1]);
-/// assert_eq!(lent::waypoints_to_path(&[0, 0, 2], &mut out).refusal, 13);
-/// ```
 #[inline]
 pub fn waypoints_to_path(list: &[i32], out: &mut [i32]) -> Reply {
     unsafe { barnsling_waypoints_to_path(list.as_ptr(), list.len(), out.as_mut_ptr(), out.len()) }
 }
 
 /// Whether every waypoint after the first is inside and free: `value` 1 or 0. Refuses STATE, LIST, POINT.
-///
-/// ```
-/// use barnsling::{lent, Grid};
-/// let floor = Grid::new(2, 1).unwrap();
-/// assert_eq!(lent::check_route(floor.tables().cells(), &[0, 0, 1, 0]).value, 1);
-/// assert_eq!(lent::check_route(floor.tables().cells(), &[0, 0, 2, 0]).value, 0);
-/// ```
 #[inline]
 pub fn check_route(t: Cells<'_>, list: &[i32]) -> Reply {
     unsafe {
@@ -171,14 +145,7 @@ pub fn check_route(t: Cells<'_>, list: &[i32]) -> Reply {
     }
 }
 
-/// What `route` prints of a map text: the bytes written. Refuses ROOM where there is less room than [`TEXT_ROOM`].
-///
-/// ```
-/// use barnsling::lent;
-/// let mut out = vec![0; lent::TEXT_ROOM];
-/// let n = lent::route_text(b"width=65\n", &mut out) as usize;
-/// assert_eq!(&out[..n], b"result=12\nline=1\n");
-/// ```
+/// What `route` prints of a map text: the bytes written. Refuses ROOM where there is less room than [`TEXT_ROOM`](crate::lent::TEXT_ROOM).
 #[inline]
 pub fn route_text(text: &[u8], out: &mut [u8]) -> u64 {
     unsafe { barnsling_route_text(text.as_ptr(), text.len(), out.as_mut_ptr(), out.len()) }

@@ -1,47 +1,4 @@
-//! Each call of the archive over slices that the host lends, for hosts that keep their own memory.
-//!
-//! Nothing is kept between calls. Every function is safe for every input: tables of any length and contents, any
-//! numbers. A table that is too short is refused with STATE, working room that is too short with SETTING.
-//!
-//! **Answers** are as they cross the boundary. A `u64` is the value, which is below 2^32, or 2^32 times a refusal's number
-//! ([`Refusal::number`](crate::Refusal::number)); where a call takes two points, 2^32 times 256 more if the first is
-//! concerned, 512 more if the second.
-//!
-//! **The dirty mark** is the host's to keep: [`set`] and [`update`] take it; [`set`], [`rebuild`] and [`update`] answer it.
-//!
-//! ```
-//! use barnsling::{lent, Point};
-//!
-//! // a grid of 3 by 1 in arrays of the host
-//! let (mut blocked, mut neighbours, mut forced, mut rank) = ([0; 3], [0; 3], [0; 3], [0; 3]);
-//! let mut parent = [0; 3];
-//! let tables = lent::CellsMut {
-//!     width: 3,
-//!     height: 1,
-//!     blocked: &mut blocked,
-//!     neighbours: &mut neighbours,
-//!     forced: &mut forced,
-//!     parent: &mut parent,
-//!     rank: &mut rank,
-//! };
-//! assert_eq!(lent::new(tables), 0);
-//! let links = lent::LinksMut { width: 3, height: 1, blocked: &blocked, parent: &mut parent, rank: &mut rank };
-//! assert_eq!(lent::rebuild(links, true), 0);
-//! let links = lent::Links { width: 3, height: 1, parent: &parent, rank: &rank };
-//! assert_eq!(lent::reachable(links, Point::new(0, 0), Point::new(2, 0)), 1);
-//!
-//! // a rank that cannot be: STATE
-//! rank[1] = 201;
-//! let links = lent::Links { width: 3, height: 1, parent: &parent, rank: &rank };
-//! assert_eq!(lent::reachable(links, Point::new(0, 0), Point::new(2, 0)), 2 << 32);
-//! ```
-
-pub use crate::raw::{
-    check_route, component, direction, distance, forced_at, forced_mask, multiple_goals,
-    neighbours_at, neighbours_reachable, neighbours_unreachable, new, pruned_at, pruned_mask,
-    reachable, rebuild, route_text, scaled_distance, set, single_goal, unreachable, update,
-    waypoints_to_path, Answer, Reply, TEXT_ROOM,
-};
+//! What the host lends.
 
 /// The five tables of a grid, lent to be read. The cell (x, y) is the entry `y * width + x` of each.
 ///
@@ -75,7 +32,7 @@ pub struct Cells<'a> {
 /// use barnsling::{lent, lent::CellsMut, Tables};
 /// let mut t = Tables::room(2, 2);
 /// let cells: CellsMut = t.cells_mut();
-/// assert_eq!(lent::new(cells), 0);
+/// assert_eq!(lent::new(cells), Ok(()));
 /// ```
 #[derive(Debug)]
 pub struct CellsMut<'a> {
@@ -120,9 +77,10 @@ pub struct Links<'a> {
 /// ```
 /// use barnsling::{lent, lent::LinksMut, Tables};
 /// let mut t = Tables::room(2, 2);
-/// lent::new(t.cells_mut());
+/// lent::new(t.cells_mut())?;
 /// let links: LinksMut = t.links_mut();
-/// assert_eq!(lent::rebuild(links, true), 0);
+/// assert_eq!(lent::rebuild(links, true), Ok(false));
+/// # Ok::<(), barnsling::Refusal>(())
 /// ```
 #[derive(Debug)]
 pub struct LinksMut<'a> {
@@ -142,9 +100,9 @@ pub struct LinksMut<'a> {
 /// afterwards is not promised.
 ///
 /// ```
-/// use barnsling::{lent, Point, Settings, Tables};
+/// use barnsling::{lent, Point, Refusal, Settings, Tables};
 /// let mut t = Tables::room(2, 1);
-/// lent::new(t.cells_mut());
+/// lent::new(t.cells_mut())?;
 /// // one place more than cells, and as many fringe entries as the limit
 /// let mut settings = Settings::default();
 /// settings.limits.fringe = 8;
@@ -159,9 +117,10 @@ pub struct LinksMut<'a> {
 ///     out: &mut out,
 /// };
 /// let origin = Point::new(0, 0);
-/// let answer = lent::single_goal(t.cells(), room, &settings, origin, origin, false);
-/// assert_eq!((answer.refusal, answer.waypoints), (0, 1));
+/// let found = lent::single_goal(t.cells(), room, &settings, origin, origin, false)?;
+/// assert_eq!(found.waypoints, 1);
 /// assert_eq!(out, [0, 0, -1, -1, -1, -1]);
+/// # Ok::<(), Refusal>(())
 /// ```
 #[derive(Debug)]
 pub struct Room<'a> {
