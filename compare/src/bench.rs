@@ -217,27 +217,27 @@ fn rust_searches(rust: &PathingGrid, asks: &[Ask]) -> usize {
         })
         .sum()
 }
-fn searches(side: i32, kind: usize, diagonal: bool) -> Times {
-    let (rust, ours, asks, numbers) = orders(side, kind, diagonal);
-    let mut rooms = [Rooms::new(), Rooms::new()];
+fn tested_searches(ours: &Lent, rooms: &mut Rooms, asks: &[Ask]) -> usize {
     let largest = Lengths {
         rooms: LARGEST_ROOMS,
         out: 8194,
     };
+    asks.iter()
+        .map(|k| {
+            let goal = [k.goals[0].x, k.goals[0].y];
+            rooms.route(ours, k, &goal, largest).waypoints as usize
+        })
+        .sum()
+}
+fn searches(side: i32, kind: usize, diagonal: bool) -> Times {
+    let (rust, ours, asks, numbers) = orders(side, kind, diagonal);
+    let mut rooms = [Rooms::new(), Rooms::new()];
     let mut lengths = [0; 3];
     let [a, b] = &mut rooms;
     let [rust_length, tested_length, inner_length] = &mut lengths;
     let t = least([
         &mut || *rust_length = rust_searches(&rust, &asks),
-        &mut || {
-            *tested_length = asks
-                .iter()
-                .map(|k| {
-                    a.route(&ours, k, &[k.goals[0].x, k.goals[0].y], largest)
-                        .waypoints as usize
-                })
-                .sum()
-        },
+        &mut || *tested_length = tested_searches(&ours, a, &asks),
         &mut || *inner_length = inner::searches(&ours, b, diagonal, &numbers) as usize,
     ])
     .map(|t| t / SEARCHES as f64);
@@ -248,13 +248,14 @@ fn searches(side: i32, kind: usize, diagonal: bool) -> Times {
         inner: Some(t[2]),
     }
 }
-/// What `compare/run instructions` counts: a map's searches by the Rust (1), by the inner call (2), or none (0), on 64 by 64.
+/// What `compare/run instructions` counts: a map's searches by the Rust (1), by the inner call (2), by the call that tests STATE (3), or none (0), on 64 by 64.
 pub fn once(kind: usize, diagonal: bool, who: usize) {
     let (rust, ours, asks, numbers) = orders(64, kind, diagonal);
     let mut rooms = Rooms::new();
     let waypoints = match who {
         1 => rust_searches(&rust, &asks),
         2 => inner::searches(&ours, &mut rooms, diagonal, &numbers) as usize,
+        3 => tested_searches(&ours, &mut rooms, &asks),
         _ => 0,
     };
     println!("{waypoints} waypoints");
