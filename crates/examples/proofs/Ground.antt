@@ -6,7 +6,7 @@ use Rattle.directions.specs.Offsets.{offX, offY}
 use Rattle.costs.specs.Cost.{distOf}
 use Rattle.costs.specs.Scale.{inBounds, scaleOf}
 use Rattle.masks.specs.Masks.{hasBit, forcedOf, prunedOf, straightOf}
-use Rattle.goals.specs.Goals.{pointAt, badOf, leastTo, amongTo}
+use Rattle.goals.specs.Goals.{pointAt, badOf, leastTo, amongTo, leftOf, guessOf}
 use Rattle.examples.specs.Ground.{Points, Costs, Masks, Goals, Ground}
 
 points : Points
@@ -14,8 +14,12 @@ unfolding offX offY splitAt
 points =
     record {
       offsets = refl;
+      modulo = refl;
+      eighths = (refl, refl, refl);
+      difference = (refl, refl, refl);
       rangeTop = (refl, refl);
       rangeBottom = (refl, refl);
+      bothTested = (refl, refl);
       turns = (refl, refl);
       opposite = refl;
       diagonal = (refl, refl);
@@ -23,7 +27,6 @@ points =
       told = refl;
       carried = (refl, refl);
       signs = (refl, refl);
-      blamed = (refl, refl);
       sameRefused = refl;
     }
 
@@ -39,8 +42,15 @@ costs =
       factorNumber = (refl, refl);
       scaled = refl;
       factorOne = refl;
+      factorMinusZero = refl;
+      newOnes = refl;
+      factorTested = (refl, refl);
+      depthTop = (refl, refl);
+      depthBottom = refl;
       popsTop = (refl, refl);
       popsBottom = (refl, refl);
+      fringeTop = (refl, refl);
+      fringeBottom = (refl, refl);
     }
 
 masks : Masks
@@ -55,15 +65,17 @@ masks =
     }
 
 goals : Goals
-unfolding distOf pointAt badOf leastTo amongTo
+unfolding distOf scaleOf mul ofInt toUnsigned round size span climb units odd pointAt badOf leastTo amongTo leftOf guessOf
 goals =
     record {
       oddCount = (refl, refl);
       sixtyFive = (refl, refl);
       misplaced = (refl, refl);
       near = (refl, refl);
+      guessed = refl;
       least = refl;
-      samePlace = (refl, refl);
+      samePlace = (refl, refl, refl);
+      placed = refl;
       several = (refl, refl);
     }
 

@@ -1,16 +1,18 @@
 -- The examples of specs/Lists.antt, computed. Assumes nothing.
 use mathlib.Core.Path.{refl}
 use lib.Ieee.{ofBits, ofFields}
-use Rattle.examples.specs.Lists.{Numbers}
+use Rattle.examples.specs.Lists.{Lists}
 
-pub numbers : Numbers
+pub lists : Lists
 unfolding ofBits ofFields
-numbers =
+lists =
     record {
       leastFirst = refl;
+      byteThere = (refl, refl);
       pastTheEnd = refl;
-      minusOne = refl;
-      lowest = refl;
+      minusOne = (refl, refl);
+      lowest = (refl, refl);
       firstNan = refl;
       infinite = refl;
+      negativeZero = refl;
     }

@@ -37,7 +37,7 @@ use lib.Ieee.{mul, le, ofInt, toUnsigned}
 use Rattle.examples.specs.Searches.{Searches, Steps}
 
 -- what a search computes with
-computing : Bool
+unfoldable pub computing : Bool
 unfolding offX offY hasBit prunedOf cellOk rootOf climb cells.sizedOf cells.cellOf reachableOf rootedOf nearAlong nearOf neighboursUnreachableOf distOf inBounds scaleOf pointAt badOf leastTo amongTo goalAt leftOf guessOf up down push top rest keyOf costOf added lowered noteOf areaOf placePoint guessAt offerOf each visitOf turnOf run none begin searchOf stops.byteAt stops.within stops.freeAt stops.stopsAt looks.reachOf looks.run looks.seesOn looks.seesEither looks.turnsAt jumps.haltsAt jumps.jumpOf againAt giveOf followWith expandWith deeperAt leapOf freeCell neighbourOf towardOf spreadOf yieldOf goalOf searchFor routeOf pairs wroteOf leftIn readyOf barredOf finder.answerOf finder.outAfter finder.startedOf finder.singleOf finder.severalOf legalOf newGrid rebuildGrid tables.newOf tables.rebuildOf tables.editOf rebuilds.columnsTo rebuilds.columnTo rebuilds.cellJoined joins.joinedTo joins.joinCell joins.around joins.ahead united linked halve halves cells.cellAt refresh.withBit refresh.touched refresh.fixed refresh.fixedAll refresh.masksAfter fills.freeBit fills.maskOf forcedOf singleOf severalOf mul le ofInt toUnsigned
 computing = true
 
@@ -48,7 +48,6 @@ searches =
       found = refl;
       written = refl;
       written-back = refl;
-      room-enough = refl;
       room-short = refl;
       room-kept = refl;
       pops-enough = refl;
@@ -59,14 +58,10 @@ searches =
       rebuilt = refl;
       start-is-goal = refl;
       approximate = refl;
+      near-enough = refl;
       unasked = refl;
       from-outside = refl;
       outside-first = refl;
-      state-first = refl;
-      state-of-several = refl;
-      setting-next = refl;
-      goals-next = refl;
-      point-next = refl;
     }
 
 pub steps : Steps
@@ -78,11 +73,19 @@ steps =
       cost-next = refl;
       key-cost = refl;
       key-none = refl;
+      larger-rises = refl;
       tie-stays = refl;
       tie-second = refl;
+      larger-child = (refl, refl);
+      copied = refl;
       equal-left = refl;
       number-kept = refl;
       estimate-pushed = refl;
       entries-most = refl;
-      start-place = refl;
+      start-place = (refl, refl);
+      start-alone = refl;
+      no-pop = refl;
+      room-tested = (refl, refl, refl);
+      goal-kinds = (refl, refl);
+      planned = refl;
     }

@@ -15,13 +15,13 @@ use Rattle.joins.specs.Joins.{around, ahead, joinCell, joinedTo}
 use Rattle.rebuilds.specs.Rebuilds.{cellJoined, columnTo, columnsTo}
 use Rattle.tables.specs.Tables.{newOf, editOf, rebuildOf, updateOf}
 use Rattle.questions.specs.Questions.{rootedOf, reachableOf, nearAlong, nearOf, neighboursReachableOf, neighboursUnreachableOf}
-use Rattle.grid.specs.Grids.{legalOf, statedOf, locatedOf, askedOf, newGrid, newOutcome, rebuildGrid, rebuildOutcome}
-use Rattle.grid.specs.Questions.{componentAt, neighbourMaskAt, forcedMaskAt, prunedMaskAt, reachableFrom, unreachableFrom}
-use Rattle.examples.specs.Tables.{Unions, States, Cells, Masks, Changes, Asked, Grids, Moves, gap, again}
+use Rattle.grid.specs.Grids.{legalOf, statedOf, locatedOf, askedOf, newGrid, newOutcome, setOutcome, rebuildGrid, rebuildOutcome, updateGrid, updateOutcome}
+use Rattle.grid.specs.Questions.{componentAt, neighbourMaskAt, forcedMaskAt, prunedMaskAt, reachableFrom, unreachableFrom, neighboursReachableFrom, neighboursUnreachableFrom}
+use Rattle.examples.specs.Tables.{Unions, States, Cells, Masks, Joined, Changes, Asked, Grids, Moves, gap, again}
 
 pub unions : Unions
 unfolding united linked rootOf climb halve halves
-unions = record { short-climb = refl; halving = refl; equal-ranks = refl; higher-on-top = refl }
+unions = record { short-climb = refl; halving = refl; equal-ranks = refl; higher-on-top = refl; were-two = (refl, refl) }
 
 pub states : States
 unfolding cellOk
@@ -39,7 +39,7 @@ states =
     }
 
 pub cells : Cells
-unfolding sizedOf cellOf
+unfolding sizedOf cellOf cellAt offX offY
 cells =
     record {
       side-64 = refl;
@@ -47,6 +47,8 @@ cells =
       side-0 = (refl, refl);
       column-0 = refl;
       outside = (refl, refl, refl);
+      next-cell = refl;
+      off-edge = (refl, refl);
       transposed = refl;
     }
 
@@ -54,9 +56,13 @@ pub masks : Masks
 unfolding maskOf freeBit masksAfter touched withBit fixedAll fixed forcedOf cellAt offX offY
 masks =
     record {
+      zeros-filled = refl;
+      numbers-filled = refl;
+      forced-filled = refl;
       free-neighbour = refl;
       blocked-neighbour = refl;
-      told = refl;
+      blocks-free = (refl, refl);
+      neighbour-told = refl;
       told-back = refl;
       cardinal-ones = refl;
       every-one = refl;
@@ -86,6 +92,10 @@ beside = refl
 joined : united (0 ∷ 2 ∷ 2 ∷ 2 ∷ []) (0 ∷ 0 ∷ 1 ∷ 0 ∷ []) 3 1 ≡ record { parent = 0 ∷ 2 ∷ 2 ∷ 2 ∷ []; rank = 0 ∷ 0 ∷ 1 ∷ 0 ∷ [] }
 unfolding united linked rootOf climb halve halves
 joined = refl
+
+pub joins : Joined
+unfolding united linked rootOf climb halve halves joinedTo joinCell around cellAt offX offY
+joins = record { right-first = refl; four-joined = refl; blocked-apart = refl }
 
 -- 3 by 1 `.#.`, rebuilt
 gap-blocked : gap .blocked ≡ 0 ∷ 1 ∷ 0 ∷ []
@@ -141,28 +151,33 @@ asked =
       eighth = refl;
       not-of-four = refl;
       inside-no = refl;
-      outside-no = refl;
-      outside-yes = (refl, refl);
+      outside-no = (refl, refl);
+      outside-near = (refl, refl);
+      outside-far = (refl, refl);
     }
 
 pub grids : Grids
-unfolding legalOf statedOf locatedOf askedOf newGrid newOutcome rebuildGrid rebuildOutcome newOf rebuildOf sizedOf cellOf cellOk componentAt neighbourMaskAt forcedMaskAt prunedMaskAt reachableFrom unreachableFrom reachableOf rootedOf rootOf climb prunedOf straightOf
+unfolding legalOf statedOf locatedOf askedOf newGrid newOutcome setOutcome rebuildGrid rebuildOutcome updateGrid updateOutcome newOf rebuildOf updateOf sizedOf cellOf cellOk componentAt neighbourMaskAt forcedMaskAt prunedMaskAt reachableFrom unreachableFrom neighboursReachableFrom neighboursUnreachableFrom reachableOf rootedOf nearOf nearAlong neighboursReachableOf neighboursUnreachableOf around cellAt offX offY rootOf climb prunedOf straightOf
 grids =
     record {
       size-refused = refl;
       size-1 = (refl, refl);
       second-row = refl;
-      state-first = refl;
-      goal-blamed = refl;
-      start-blamed = refl;
-      outside-blamed = refl;
-      mark-cleared = refl;
+      sides-tested = refl;
+      edit-refused = (refl, refl);
+      rebuild-refused = (refl, refl);
+      mark-cleared = (refl, refl);
+      clean-kept = refl;
       component-there = refl;
       forced-read = refl;
       neighbours-read = refl;
       setting-read = (refl, refl);
       no-said = refl;
       yes-said = refl;
+      near-said = (refl, refl);
+      far-said = (refl, refl);
+      goal-outside = (refl, refl, refl, refl);
+      start-outside = (refl, refl, refl, refl);
     }
 
 pub moves : Moves

@@ -3,7 +3,6 @@ use mathlib.Core.Path.{_≡_}
 use mathlib.Core.Bool.{Bool, true, false}
 use Prim.Native.Nat.{ℕ}
 use lib.IntN.{pos}
-use Rattle.points.specs.declared.Point.{Point}
 use Rattle.costs.specs.Cost.{distOf}
 use Rattle.masks.specs.Masks.{forcedOf, prunedIn}
 

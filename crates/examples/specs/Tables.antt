@@ -1,32 +1,34 @@
 -- Worked examples of a grid's tables: the right answer of a definition that a contract cites, where the mistake that the comment names would give another.
 -- A grid of 2 by 1 has the cells 0 and 1. Direction 0 is up, 2 is right, 4 is down, 6 is left. Assumes nothing.
 use mathlib.Core.Path.{_≡_}
-use mathlib.Core.Bool.{true, false}
-use mathlib.Core.List.{[], _∷_}
+use mathlib.Core.Bool.{Bool, true, false, not}
+use mathlib.Core.List.{List, [], _∷_}
 use Prim.Native.Nat.{ℕ}
+use lib.Dec.{eqb}
 use lib.IntN.{pos, negsuc}
 use lib.ListN.{replicate, set}
 use Rattle.points.specs.declared.Point.{Point}
 use Rattle.points.specs.declared.Refusal.the-variants.{Size, State, BadPoint}
-use Rattle.components.specs.Components.{rootOf, halve, united}
+use Rattle.components.specs.Components.{Links, rootOf, halve, united}
 use Rattle.states.specs.States.{stateOk}
-use Rattle.cells.specs.Cells.{sizedOf, placeOf, cellOf}
-use Rattle.fills.specs.Fills.{maskOf, newMasks}
-use Rattle.refresh.specs.Refresh.{masksAfter, forcedAfter}
+use Rattle.cells.specs.Cells.{sizedOf, placeOf, cellOf, cellTo}
+use Rattle.fills.specs.Fills.{fillTo, maskOf, newMasks, newForced}
+use Rattle.refresh.specs.Refresh.{blocks, masksAfter, forcedAfter}
+use Rattle.joins.specs.Joins.{around, joinedTo}
 use Rattle.tables.specs.Tables.{Tables, newOf, editOf, rebuildOf, updateOf}
 use Rattle.questions.specs.Questions.{reachableOf, nearOf, neighboursReachableOf, neighboursUnreachableOf}
 use Rattle.grid.specs.declared.Grid.{Grid}
-use Rattle.grid.specs.declared.Outcome.the-variants.{Refused}
+use Rattle.grid.specs.declared.Outcome.the-variants.{Done, Refused}
 use Rattle.grid.specs.declared.Component.the-variants as Component
 use Rattle.grid.specs.declared.Mask.the-variants as Mask
 use Rattle.grid.specs.declared.Verdict.the-variants as Verdict
-use Rattle.grid.specs.Grids.{legalOf, locatedOf, askedOf, newOutcome, rebuildOutcome}
-use Rattle.grid.specs.Questions.{componentAt, neighbourMaskAt, forcedMaskAt, prunedMaskAt, reachableFrom, unreachableFrom}
+use Rattle.grid.specs.Grids.{legalOf, newOutcome, setOutcome, rebuildOutcome, updateOutcome}
+use Rattle.grid.specs.Questions.{componentAt, neighbourMaskAt, forcedMaskAt, prunedMaskAt, reachableFrom, unreachableFrom, neighboursReachableFrom, neighboursUnreachableFrom}
 use Rattle.demand.specs.Walks.{Step}
 
 -- the union-find, over the cells' parents and their ranks
 pub record Unions : Type 0 where
-  -- the next parent for the root
+  -- the next parent for the root, or the cell itself
   pub short-climb : rootOf (1 ∷ 2 ∷ 3 ∷ 3 ∷ []) 0 ≡ 3
   -- no halving (1 ∷ 2 ∷ 3 ∷ ..), and halving that goes on at the grandparent (2 ∷ 2 ∷ 4 ∷ ..)
   pub halving : halve (1 ∷ 2 ∷ 3 ∷ 4 ∷ 4 ∷ []) 0 ≡ 2 ∷ 3 ∷ 4 ∷ 4 ∷ 4 ∷ []
@@ -34,6 +36,8 @@ pub record Unions : Type 0 where
   pub equal-ranks : united (0 ∷ 1 ∷ []) (0 ∷ 0 ∷ []) 0 1 ≡ record { parent = 0 ∷ 0 ∷ []; rank = 1 ∷ 0 ∷ [] }
   -- the first root on top where the second ranks above it, a rank raised
   pub higher-on-top : united (0 ∷ 0 ∷ 2 ∷ []) (1 ∷ 0 ∷ 0 ∷ []) 2 1 ≡ record { parent = 0 ∷ 0 ∷ 0 ∷ []; rank = 1 ∷ 0 ∷ 0 ∷ [] }
+  -- two components told as one, or one as two
+  pub were-two : (not (eqb (rootOf (0 ∷ 1 ∷ []) 0) (rootOf (0 ∷ 1 ∷ []) 1)) ≡ true) × (not (eqb (rootOf (0 ∷ 0 ∷ []) 0) (rootOf (0 ∷ 0 ∷ []) 1)) ≡ false)
 
 -- STATE, over the number of cells, their parents and their ranks
 pub record States : Type 0 where
@@ -61,20 +65,43 @@ pub record Cells : Type 0 where
   pub column-0 : placeOf (pos 0) 3 ≡ 0
   -- column 3, column -1 or row 2 inside
   pub outside : (placeOf (pos 3) 3 ≡ 3) × (placeOf (negsuc 0) 3 ≡ 3) × (cellOf 3 2 (record { x = pos 0; y = pos 2 }) ≡ 6)
+  -- another neighbour than the one below on the right
+  pub next-cell : cellTo 3 2 0 0 3 ≡ 4
+  -- a step off the right edge to the next row's first cell (3), one off the left edge to a cell
+  pub off-edge : (cellTo 3 2 2 0 2 ≡ 6) × (cellTo 3 2 0 1 6 ≡ 6)
   -- columns and rows mixed (7)
   pub transposed : cellOf 3 2 (record { x = pos 2; y = pos 1 }) ≡ 5
 
 -- the masks of a grid's cells
 pub record Masks : Type 0 where
+  -- what lies past the cells filled too, or the last cell left out
+  pub zeros-filled : fillTo (λ i. 0) (7 ∷ 7 ∷ 7 ∷ []) 2 ≡ 0 ∷ 0 ∷ 7 ∷ []
+  pub numbers-filled : fillTo (λ i. i) (7 ∷ 7 ∷ 7 ∷ []) 2 ≡ 0 ∷ 1 ∷ 7 ∷ []
+  -- the neighbour masks for the forced ones (4 ∷ 64), or what lies past the cells filled too
+  pub forced-filled : newForced 2 1 (7 ∷ 7 ∷ []) (7 ∷ 7 ∷ []) (7 ∷ 7 ∷ 7 ∷ []) ≡ 255 ∷ 255 ∷ 7 ∷ []
   -- a neighbour that is outside or blocked taken as free
   pub free-neighbour : newMasks 2 1 (7 ∷ 7 ∷ []) (7 ∷ 7 ∷ []) ≡ 4 ∷ 64 ∷ []
   pub blocked-neighbour : maskOf 2 1 (0 ∷ 1 ∷ []) 0 0 ≡ 0
+  -- an edit that frees taken for one that blocks, one that blocks a free cell not
+  pub blocks-free : (blocks 1 (0 ∷ []) 0 0 false ≡ false) × (blocks 1 (0 ∷ []) 0 0 true ≡ true)
   -- another bit of the neighbour told (4 ∷ 64), the cell told itself (4 ∷ 0)
-  pub told : masksAfter 2 1 (4 ∷ 64 ∷ []) 1 0 false ≡ 0 ∷ 64 ∷ []
+  pub neighbour-told : masksAfter 2 1 (4 ∷ 64 ∷ []) 1 0 false ≡ 0 ∷ 64 ∷ []
   pub told-back : masksAfter 2 1 (0 ∷ 64 ∷ []) 1 0 true ≡ 4 ∷ 64 ∷ []
   -- with diagonals off, the diagonal neighbour's forced mask worked out again, or a cardinal one's not
   pub cardinal-ones : forcedAfter 2 2 false (0 ∷ 0 ∷ 0 ∷ 0 ∷ []) (7 ∷ 7 ∷ 7 ∷ 7 ∷ []) 0 0 false ≡ 255 ∷ 255 ∷ 255 ∷ 7 ∷ []
   pub every-one : forcedAfter 2 2 true (0 ∷ 0 ∷ 0 ∷ 0 ∷ []) (7 ∷ 7 ∷ 7 ∷ 7 ∷ []) 0 0 false ≡ 255 ∷ 255 ∷ 255 ∷ 255 ∷ []
+
+-- a cell joined with its free neighbours, in the order of an edit: blocked cells, parents and ranks of w by h cells
+abbrev pub joined : ℕ → ℕ → List ℕ → List ℕ → List ℕ → ℕ → ℕ → Bool → Links
+joined w h blocked p k x y diagonal = joinedTo w h blocked x y (around diagonal) (record { parent = p; rank = k })
+
+pub record Joined : Type 0 where
+  -- the left neighbour first (0 ∷ 0 ∷ 0)
+  pub right-first : joined 3 1 (0 ∷ 0 ∷ 0 ∷ []) (0 ∷ 1 ∷ 2 ∷ []) (1 ∷ 0 ∷ 1 ∷ []) 1 0 true .parent ≡ 2 ∷ 2 ∷ 2 ∷ []
+  -- the diagonal neighbour with diagonals off
+  pub four-joined : joined 2 2 (0 ∷ 0 ∷ 0 ∷ 0 ∷ []) (0 ∷ 1 ∷ 2 ∷ 3 ∷ []) (0 ∷ 0 ∷ 0 ∷ 0 ∷ []) 0 0 false .parent ≡ 0 ∷ 0 ∷ 0 ∷ 3 ∷ []
+  -- a blocked neighbour
+  pub blocked-apart : joined 2 1 (0 ∷ 1 ∷ []) (0 ∷ 1 ∷ []) (0 ∷ 0 ∷ []) 0 0 true .parent ≡ 0 ∷ 1 ∷ []
 
 -- room for the tables of n cells, with anything in it
 abbrev pub room : ℕ → Tables
@@ -133,16 +160,23 @@ pub record Asked : Type 0 where
   pub not-of-four : nearOf 2 2 false (0 ∷ 1 ∷ 2 ∷ 3 ∷ []) 0 3 ≡ false
   -- near taken for not near
   pub inside-no : neighboursUnreachableOf 2 1 true (0 ∷ 1 ∷ []) 0 1 ≡ false
-  -- other answers than document 01's where the goal is outside
-  pub outside-no : reachableOf 2 (0 ∷ 1 ∷ []) 0 2 ≡ false
-  pub outside-yes : (neighboursReachableOf 2 1 true (0 ∷ 1 ∷ []) 0 2 ≡ true) × (neighboursUnreachableOf 2 1 true (0 ∷ 1 ∷ []) 0 2 ≡ true)
+  -- other answers than document 01's where the goal is outside, or the start: cell 2 read as a cell would give the other answer each time
+  pub outside-no : (reachableOf 2 (0 ∷ 0 ∷ []) 0 2 ≡ false) × (reachableOf 2 (0 ∷ 0 ∷ []) 2 0 ≡ false)
+  pub outside-near : (neighboursReachableOf 2 1 false (0 ∷ 1 ∷ []) 1 2 ≡ true) × (neighboursReachableOf 2 1 false (0 ∷ 1 ∷ []) 2 0 ≡ true)
+  pub outside-far : (neighboursUnreachableOf 2 1 true (0 ∷ 0 ∷ []) 0 2 ≡ true) × (neighboursUnreachableOf 2 1 true (0 ∷ 0 ∷ []) 2 0 ≡ true)
 
--- a grid of 2 by 1: singletons, with bytes that tell its tables apart; and one of 1 by 2 whose second row has a rank of 201
+-- a grid of 2 by 1: singletons, with bytes that tell its tables apart; the same not dirty; one of 1 by 2 whose second row has a rank of 201; and one of 0 by 1
 abbrev pub pair : Grid
 pair = record { width = 2; height = 1; dirty = true; blocked = 0 ∷ 0 ∷ []; neighbours = 255 ∷ 64 ∷ []; forced = 9 ∷ 8 ∷ []; parent = 0 ∷ 1 ∷ []; rank = 0 ∷ 0 ∷ [] }
 
+abbrev pub clean : Grid
+clean = record { width = 2; height = 1; dirty = false; blocked = 0 ∷ 0 ∷ []; neighbours = 255 ∷ 64 ∷ []; forced = 9 ∷ 8 ∷ []; parent = 0 ∷ 1 ∷ []; rank = 0 ∷ 0 ∷ [] }
+
 abbrev pub broken : Grid
 broken = record { width = 1; height = 2; dirty = false; blocked = 0 ∷ 0 ∷ []; neighbours = 0 ∷ 0 ∷ []; forced = 0 ∷ 0 ∷ []; parent = 0 ∷ 1 ∷ []; rank = 0 ∷ 201 ∷ [] }
+
+abbrev pub thin : Grid
+thin = record { width = 0; height = 1; dirty = false; blocked = []; neighbours = []; forced = []; parent = []; rank = [] }
 
 abbrev pub at : ℕ → ℕ → Point
 at x y = record { x = pos x; y = pos y }
@@ -152,16 +186,16 @@ pub record Grids : Type 0 where
   -- no refusal, or a grid of 1 by 2 with it
   pub size-refused : newOutcome 65 1 .outcome ≡ Refused Size
   pub size-1 : (newOutcome 65 1 .grid .width ≡ 1) × (newOutcome 65 1 .grid .height ≡ 1)
-  -- one row tested for all
+  -- one row tested for all, or the sides untested
   pub second-row : legalOf broken ≡ false
-  -- POINT before STATE
-  pub state-first : locatedOf broken (at 5 5) ≡ Refused State
-  -- the wrong point blamed
-  pub goal-blamed : askedOf pair (at 0 0) (at 1024 0) ≡ Refused (BadPoint (at 1024 0))
-  pub start-blamed : askedOf pair (at 0 1024) (at 1024 0) ≡ Refused (BadPoint (at 0 1024))
-  pub outside-blamed : locatedOf pair (at 2 0) ≡ Refused (BadPoint (at 2 0))
+  pub sides-tested : legalOf thin ≡ false
+  -- a refusal that changes the grid: STATE and POINT hand it back
+  pub edit-refused : (setOutcome broken true (at 0 0) true ≡ record { outcome = Refused State; grid = broken }) × (setOutcome pair true (at 2 0) true ≡ record { outcome = Refused (BadPoint (at 2 0)); grid = pair })
+  pub rebuild-refused : (rebuildOutcome broken true ≡ record { outcome = Refused State; grid = broken }) × (updateOutcome broken true ≡ record { outcome = Refused State; grid = broken })
   -- the mark left
-  pub mark-cleared : rebuildOutcome pair true .grid .dirty ≡ false
+  pub mark-cleared : (rebuildOutcome pair true .grid .dirty ≡ false) × (updateOutcome pair true .grid .dirty ≡ false)
+  -- a clean grid rebuilt by an update (0 ∷ 0)
+  pub clean-kept : updateOutcome clean true ≡ record { outcome = Done; grid = clean }
   -- the component of cell 0
   pub component-there : componentAt pair (at 1 0) ≡ Component.Is 1
   -- neighbours for forced, and the other way round
@@ -169,9 +203,19 @@ pub record Grids : Type 0 where
   pub neighbours-read : neighbourMaskAt pair (at 1 0) ≡ Mask.Is 64
   -- the setting unread
   pub setting-read : (prunedMaskAt pair true (at 0 0) 2 ≡ Mask.Is 4) × (prunedMaskAt pair false (at 0 0) 2 ≡ Mask.Is 21)
-  -- yes for no
+  -- yes for no, and no for yes
   pub no-said : reachableFrom pair (at 0 0) (at 1 0) ≡ Verdict.No
   pub yes-said : unreachableFrom pair (at 0 0) (at 1 0) ≡ Verdict.Yes
+  -- the neighbour questions' answers turned round, and the goal asked in place of its neighbours: (0,0) is beside (1,0), and not beside itself
+  pub near-said : (neighboursReachableFrom pair true (at 0 0) (at 1 0) ≡ Verdict.Yes) × (neighboursReachableFrom pair true (at 0 0) (at 0 0) ≡ Verdict.No)
+  pub far-said : (neighboursUnreachableFrom pair true (at 0 0) (at 1 0) ≡ Verdict.No) × (neighboursUnreachableFrom pair true (at 0 0) (at 0 0) ≡ Verdict.Yes)
+  -- other answers than document 01's where the goal is outside, or the start: reachable no, the others yes; a point outside read as a cell would give the other answer
+  pub goal-outside :
+      (reachableFrom pair (at 0 0) (at 2 0) ≡ Verdict.No) × (unreachableFrom pair (at 0 0) (at 2 0) ≡ Verdict.Yes)
+      × (neighboursReachableFrom pair false (at 1 0) (at 2 0) ≡ Verdict.Yes) × (neighboursUnreachableFrom pair false (at 0 0) (at 2 0) ≡ Verdict.Yes)
+  pub start-outside :
+      (reachableFrom pair (at 0 1) (at 0 0) ≡ Verdict.No) × (unreachableFrom pair (at 0 1) (at 0 0) ≡ Verdict.Yes)
+      × (neighboursReachableFrom pair false (at 0 1) (at 0 0) ≡ Verdict.Yes) × (neighboursUnreachableFrom pair false (at 0 1) (at 1 0) ≡ Verdict.Yes)
 
 -- the moves of demand 3's walks
 pub record Moves : Type 0 where

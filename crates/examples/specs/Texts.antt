@@ -5,26 +5,31 @@ use mathlib.Core.Bool.{true, false}
 use mathlib.Core.List.{List, [], _∷_, _++_}
 use Prim.Native.Nat.{ℕ, _*_, _%_}
 use lib.IntN.{ℤ, pos, negsuc}
-use lib.ListN.{length}
+use lib.ListN.{length, set}
+use lib.Seq.{sets}
 use Rattle.points.specs.declared.Point.{Point}
 use Rattle.points.specs.declared.Refusal.the-variants as refusal
 use Rattle.costs.specs.Scale.{one, scaledOf}
 use Rattle.masks.specs.Masks.{prunedIn}
 use Rattle.grid.specs.Grids.{legalOf}
 use Rattle.grid.specs.declared.Grid.{Grid}
+use Rattle.grid.specs.declared.Outcome.the-variants as outcome
 use Rattle.grid.specs.declared.Verdict.{Verdict}
 use Rattle.grid.specs.declared.Verdict.the-variants as verdict
-use Rattle.text.specs.Grammar.{numberOf, coordOf}
+use Rattle.text.specs.Grammar.{numberOf, coordOf, pairOf}
 use Rattle.text.specs.declared.Num.the-variants.{Whole, Wrong}
 use Rattle.text.specs.declared.Coord.the-variants.{At, Off}
-use Rattle.lines.specs.Lines.{numberLine}
-use Rattle.printing.specs.Render.{digitsOf, coordText}
+use Rattle.text.specs.declared.Pair.the-variants.{Both, Neither}
+use Rattle.lines.specs.Lines.{startsWith, numberLine, pointLine}
+use Rattle.printing.specs.Render.{digitsOf, coordText, numberText, pointText}
 use Rattle.rows.specs.Rows.{rowsOf, cellsOf}
 use Rattle.rows.specs.declared.Rows.the-variants as rows
 use Rattle.maps.specs.Maps.{widthWord, flagLine, diagonalWord, headOf, withHead, mapOf}
 use Rattle.maps.specs.declared.Header.{Header}
 use Rattle.maps.specs.declared.Reading.the-variants as reading
 use Rattle.map_printing.specs.Shown.{mapText}
+use Rattle.pairs.specs.Pairs.{pointAt, firstBad}
+use Rattle.pairs.specs.declared.Bad.the-variants as Bad
 use Rattle.paths.specs.Walks.{pathOf, pathAnswer, pathKept}
 use Rattle.paths.specs.declared.Written.the-variants as written
 use Rattle.checks.specs.Checks.{checkIn}
@@ -49,6 +54,16 @@ pub record Lines : Type 0 where
   pub signs : (coordOf (43 ∷ 55 ∷ []) ≡ Off) × (coordOf (45 ∷ 48 ∷ []) ≡ Off) × (coordOf (45 ∷ 55 ∷ []) ≡ At (negsuc 6) 2)
   -- a wrong count of bytes: `0` is one byte, `64` two
   pub count : (numberOf 1024 (48 ∷ 10 ∷ []) ≡ Whole 0 1) × (numberOf 1024 (54 ∷ 52 ∷ 10 ∷ []) ≡ Whole 64 2)
+  -- another separator than a comma taken, or the second coordinate lost: `1,2` is three bytes, `1;2` is no point
+  pub pairs : (pairOf (49 ∷ 44 ∷ 50 ∷ []) ≡ Both (at 1 2) 3) × (pairOf (49 ∷ 59 ∷ 50 ∷ []) ≡ Neither)
+  -- a word that is cut off taken, or another word
+  pub words : (startsWith widthWord (119 ∷ 105 ∷ 100 ∷ []) ≡ false) × (startsWith (97 ∷ []) (98 ∷ []) ≡ false) × (startsWith (97 ∷ []) (97 ∷ 98 ∷ []) ≡ true)
+  -- a point's line with no newline taken: `=1,2` is five bytes with it
+  pub points : (pointLine (61 ∷ []) (61 ∷ 49 ∷ 44 ∷ 50 ∷ []) ≡ Neither) × (pointLine (61 ∷ []) (61 ∷ 49 ∷ 44 ∷ 50 ∷ 10 ∷ []) ≡ Both (at 1 2) 5)
+  -- a word written short or elsewhere: `ab` at place 1, the rest kept
+  pub wordPut : sets {A = ℕ} (9 ∷ 9 ∷ 9 ∷ 9 ∷ []) 1 (97 ∷ 98 ∷ []) ≡ 9 ∷ 97 ∷ 98 ∷ 9 ∷ []
+  -- the newline or the word left out: `=64` and `=-7,2`, each with a newline
+  pub put : (numberText (61 ∷ []) 64 ≡ 61 ∷ 54 ∷ 52 ∷ 10 ∷ []) × (pointText (61 ∷ []) (record { x = negsuc 6; y = pos 2 }) ≡ 61 ∷ 45 ∷ 55 ∷ 44 ∷ 50 ∷ 10 ∷ [])
   -- a leading zero taken: `width=03`
   pub leadingZero : numberLine widthWord 1024 (119 ∷ 105 ∷ 100 ∷ 116 ∷ 104 ∷ 61 ∷ 48 ∷ 51 ∷ 10 ∷ []) ≡ Wrong
   -- a line with no newline taken: `width=3` is eight bytes with it
@@ -69,7 +84,10 @@ headOn d rest =
     ++ ((103 ∷ 111 ∷ 97 ∷ 108 ∷ 61 ∷ 50 ∷ 44 ∷ 48 ∷ 10 ∷ [])
     ++ rest))))
 
--- `row=.#.` and `row=.x.`
+-- `row=...`, `row=.#.` and `row=.x.`
+abbrev pub clearRow : List ℕ
+clearRow = 114 ∷ 111 ∷ 119 ∷ 61 ∷ 46 ∷ 46 ∷ 46 ∷ 10 ∷ []
+
 abbrev pub wall : List ℕ
 wall = 114 ∷ 111 ∷ 119 ∷ 61 ∷ 46 ∷ 35 ∷ 46 ∷ 10 ∷ []
 
@@ -98,6 +116,8 @@ pub record Maps : Type 0 where
   pub glyph : mapText header (0 ∷ 1 ∷ 0 ∷ []) ≡ headOn 49 wall
   -- the setting lost: `diagonal=0`
   pub setting : readOf (headOn 48 wall) .diagonal ≡ false
+  -- a refused text with another grid than a new one of 1 by 1, or with another line: the empty text lacks line 1
+  pub nothing : (readOf [] .outcome ≡ outcome.Refused (refusal.Map 1)) × (readOf [] .grid .width ≡ 1) × (readOf [] .grid .height ≡ 1) × (readOf [] .grid .dirty ≡ false)
   -- a clean mark: the components of a map that was read are yet to be rebuilt
   pub dirty : readOf (headOn 49 wall) .grid .dirty ≡ true
   -- written where the longest text does not fit: 8,191 bytes are ROOM, 8,192 are not
@@ -114,6 +134,12 @@ onWall l = checkIn 3 1 (0 ∷ 1 ∷ 0 ∷ []) l
 
 -- paths and route checks
 pub record Walks : Type 0 where
+  -- another point of a list, or its numbers exchanged
+  pub read : pointAt (pos 1 ∷ pos 2 ∷ pos 3 ∷ pos 4 ∷ []) 2 ≡ at 3 4
+  -- the last point out of range blamed for the first
+  pub firstBlamed : firstBad (pos 0 ∷ pos 0 ∷ pos 1024 ∷ pos 0 ∷ pos 0 ∷ pos 1024 ∷ []) ≡ Bad.At (at 1024 0)
+  -- a point's numbers exchanged, or the rest of the list changed
+  pub stored : set (set (pos 9 ∷ pos 9 ∷ pos 9 ∷ []) 1 (pos 3)) 2 (pos 4) ≡ pos 9 ∷ pos 3 ∷ pos 4 ∷ []
   -- a step away from the waypoint: the walk is by sign
   pub sign : pathOf slope ≡ pos 2 ∷ pos 0 ∷ pos 1 ∷ pos 1 ∷ pos 0 ∷ pos 1 ∷ []
   -- room for one less: three points fit in room for three
@@ -141,6 +167,8 @@ pub record Prints : Type 0 where
   pub badLine : badText 3 ≡ 114 ∷ 101 ∷ 115 ∷ 117 ∷ 108 ∷ 116 ∷ 61 ∷ 49 ∷ 50 ∷ 10 ∷ 108 ∷ 105 ∷ 110 ∷ 101 ∷ 61 ∷ 51 ∷ 10 ∷ []
   -- result and pops mixed, or a route where there is none
   pub refused : answerText 4 0 [] false ≡ 114 ∷ 101 ∷ 115 ∷ 117 ∷ 108 ∷ 116 ∷ 61 ∷ 52 ∷ 10 ∷ 112 ∷ 111 ∷ 112 ∷ 115 ∷ 61 ∷ 48 ∷ 10 ∷ 119 ∷ 97 ∷ 121 ∷ 112 ∷ 111 ∷ 105 ∷ 110 ∷ 116 ∷ 115 ∷ 61 ∷ 48 ∷ 10 ∷ 99 ∷ 108 ∷ 101 ∷ 97 ∷ 114 ∷ 61 ∷ 48 ∷ 10 ∷ []
+  -- document 01's two maps from text to text: `row=...` is found with three pops and clear, `row=.#.` refused with 4
+  pub routed : (routeText (headOn 49 clearRow) ≡ checkedText verdict.Yes 3 three) × (routeText (headOn 49 wall) ≡ answerText 4 0 [] false)
   -- clear turned round: document 01's seven lines, and the fourth where the check says no
   pub clear : (checkedText verdict.Yes 3 three ≡ (114 ∷ 101 ∷ 115 ∷ 117 ∷ 108 ∷ 116 ∷ 61 ∷ 48 ∷ 10 ∷ 112 ∷ 111 ∷ 112 ∷ 115 ∷ 61 ∷ 51 ∷ 10 ∷ 119 ∷ 97 ∷ 121 ∷ 112 ∷ 111 ∷ 105 ∷ 110 ∷ 116 ∷ 115 ∷ 61 ∷ 51 ∷ 10 ∷ []) ++ ((99 ∷ 108 ∷ 101 ∷ 97 ∷ 114 ∷ 61 ∷ 49 ∷ 10 ∷ []) ++ (112 ∷ 111 ∷ 105 ∷ 110 ∷ 116 ∷ 61 ∷ 48 ∷ 44 ∷ 48 ∷ 10 ∷ 112 ∷ 111 ∷ 105 ∷ 110 ∷ 116 ∷ 61 ∷ 49 ∷ 44 ∷ 48 ∷ 10 ∷ 112 ∷ 111 ∷ 105 ∷ 110 ∷ 116 ∷ 61 ∷ 50 ∷ 44 ∷ 48 ∷ 10 ∷ [])))
       × (checkedText verdict.No 3 three ≡ (114 ∷ 101 ∷ 115 ∷ 117 ∷ 108 ∷ 116 ∷ 61 ∷ 48 ∷ 10 ∷ 112 ∷ 111 ∷ 112 ∷ 115 ∷ 61 ∷ 51 ∷ 10 ∷ 119 ∷ 97 ∷ 121 ∷ 112 ∷ 111 ∷ 105 ∷ 110 ∷ 116 ∷ 115 ∷ 61 ∷ 51 ∷ 10 ∷ []) ++ ((99 ∷ 108 ∷ 101 ∷ 97 ∷ 114 ∷ 61 ∷ 48 ∷ 10 ∷ []) ++ (112 ∷ 111 ∷ 105 ∷ 110 ∷ 116 ∷ 61 ∷ 48 ∷ 44 ∷ 48 ∷ 10 ∷ 112 ∷ 111 ∷ 105 ∷ 110 ∷ 116 ∷ 61 ∷ 49 ∷ 44 ∷ 48 ∷ 10 ∷ 112 ∷ 111 ∷ 105 ∷ 110 ∷ 116 ∷ 61 ∷ 50 ∷ 44 ∷ 48 ∷ 10 ∷ [])))
