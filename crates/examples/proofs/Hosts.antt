@@ -14,12 +14,13 @@ use Rattle.boundary.specs.Walks.{checkLent}
 use Rattle.examples.specs.Hosts.{Hosts, Replies}
 
 pub hosts : Hosts
-unfolding inBounds le lt eq cellOk sizedOf cellOf readyOf finder.singleOf finder.severalOf firstBad checkIn lent.linksOk lent.groundOk lent.coversOk lent.heldOf lent.roomyOf lent.newLent lent.setLent lent.componentLent lent.locatedOf lent.maskLent lent.prunedLent lent.askedOf lent.reachableLent lent.unreachableLent lent.nearLent lent.farLent singleLent severalLent checkLent
+unfolding inBounds le lt eq cellOk sizedOf cellOf readyOf finder.singleOf finder.severalOf firstBad checkIn lent.linksOk lent.groundOk lent.coversOk lent.heldOf lent.roomyOf lent.newLent lent.setLent lent.componentLent lent.locatedOf lent.blockedLent lent.maskLent lent.prunedLent lent.askedOf lent.reachableLent lent.unreachableLent lent.nearLent lent.farLent singleLent severalLent checkLent
 hosts =
     record {
       new-tables = (refl, refl);
       set-tables = (refl, refl);
       component = (refl, refl);
+      blocked-at = (refl, refl, refl, refl);
       mask-at = (refl, refl);
       pruned-at = (refl, refl);
       reachable = (refl, refl, refl);

@@ -106,6 +106,7 @@ numbers = record {
   flag = refl;
   point = refl;
   blamed = (refl, refl);
+  unblamed = (refl, refl);
   short = (refl, refl);
   room = ((λ t. refl), (λ t. refl));
   points = refl;

@@ -57,6 +57,10 @@ pub record Hosts : Type 0 where
   -- STATE, POINT
   pub set-tables : (lent.setLent 2 1 true tangled beside true ≡ lent.leftIn (numbered 2) tangled) × (lent.setLent 2 1 true lawful beside true ≡ lent.leftIn (numbered 14) lawful)
   pub component : (lent.componentLent 2 1 wild zeros beside ≡ numbered 2) × (lent.componentLent 2 1 own zeros beside ≡ numbered 14)
+  -- the same, and then the byte read as yes or no: 2 is blocked, 0 is free
+  pub blocked-at : (lent.blockedLent 2 1 (2 ∷ 0 ∷ []) wild zeros beside ≡ numbered 2) × (lent.blockedLent 2 1 (2 ∷ 0 ∷ []) own zeros beside ≡ numbered 14)
+      × (lent.blockedLent 2 1 (2 ∷ 0 ∷ []) own zeros here ≡ 1) × (lent.blockedLent 2 1 (0 ∷ 2 ∷ []) own zeros here ≡ 0)
+  -- STATE, POINT
   pub mask-at : (lent.maskLent 2 1 zeros wild zeros beside ≡ numbered 2) × (lent.maskLent 2 1 zeros own zeros beside ≡ numbered 14)
   pub pruned-at : (lent.prunedLent 2 1 true zeros wild zeros beside 0 ≡ numbered 2) × (lent.prunedLent 2 1 true zeros own zeros beside 0 ≡ numbered 14)
   -- STATE, POINT (start, then goal)

@@ -4,6 +4,7 @@ use mathlib.Core.Path.{_≡_}
 use mathlib.Core.Bool.{true, false}
 use mathlib.Core.List.{List, [], _∷_, _++_}
 use Prim.Native.Nat.{ℕ, _*_, _%_}
+use lib.Ieee.{nan}
 use lib.IntN.{ℤ, pos, negsuc}
 use lib.ListN.{length, set}
 use lib.Seq.{sets}
@@ -37,7 +38,8 @@ use Rattle.answers.specs.Answers.{answerText, badText}
 use Rattle.floors.specs.Floors.{readOf, shownOf, putOf}
 use Rattle.floors.specs.declared.Put.the-variants as put
 use Rattle.router.specs.Route.{settingsFor, checkedText, routeText}
-use Rattle.packing.specs.Packing.{flagOf, pointOf, measurePacked, refusedAs}
+use Rattle.headings.specs.Headings.{directionOf}
+use Rattle.packing.specs.Packing.{flagOf, pointOf, headingPacked, measurePacked, refusedAs}
 use Rattle.replies.specs.Replies.{valueReply, writtenReply}
 use Rattle.boundary.specs.Lent.{groundOk}
 use Rattle.boundary.specs.Texts.{printedOf}
@@ -183,6 +185,8 @@ pub record Numbers : Type 0 where
   pub point : measurePacked (scaledOf (flagOf 1) one (pointOf (pos 0) (pos 0)) (pointOf (pos 1) (pos 0))) (pointOf (pos 0) (pos 0)) ≡ 70
   -- the wrong point blamed: POINT is 14, with 256 more for the first and 512 more for the second
   pub blamed : (measurePacked (scaledOf true one (at 1024 0) (at 0 0)) (at 1024 0) ≡ 4294967296 * 270) × (measurePacked (scaledOf true one (at 0 0) (at 1024 0)) (at 0 0) ≡ 4294967296 * 526)
+  -- a point told of where none is to blame: SETTING, 3, and SAME, 11, come as their numbers alone
+  pub unblamed : (measurePacked (scaledOf true nan (at 0 0) (at 1 0)) (at 0 0) ≡ 4294967296 * 3) × (headingPacked (directionOf (at 0 0) (at 0 0)) (at 0 0) ≡ 4294967296 * 11)
   -- a short table taken: two cells and one place
   pub short : (groundOk 2 1 (0 ∷ []) (0 ∷ 1 ∷ []) (0 ∷ 0 ∷ []) ≡ false) × (groundOk 2 1 (0 ∷ 0 ∷ []) (0 ∷ 1 ∷ []) (0 ∷ 0 ∷ []) ≡ true)
   -- room that is just enough refused: 82,100 bytes
