@@ -1,17 +1,9 @@
-// What the programs `route` and `show` do alike at the prompt: they read a text from a file or from standard input,
-// and say on standard error, in words, what is wrong with it. A program is named as `route: `, with the colon and the space.
-ghost use Rattle.prompt.specs.Reads.{Within};
+// What the programs `route` and `show` say on standard error, in words. A program names itself as `route: `, with the colon and the space.
 use faults::Fault;
 use libc::STDERR_FILENO;
 use maps::Reading;
 
-// The bytes of a text that was read; where it could not be read, that was told.
-pub enum Read {
-    Bytes(usize),
-    Failed,
-}
-
-// Says words on standard error. A write that fails there can be told to nobody.
+// A write that fails on standard error can be told to nobody.
 fn warn(words: &[u8]) {
     io::write_all(STDERR_FILENO, words);
 }
@@ -27,46 +19,24 @@ fn fail(program: &[u8], name: &[u8]) {
     os::fail(name);
 }
 
-// Whether argument i asks for help.
-pub fn asks_help(i: usize) -> bool {
-    let mut word = [0u8; 8];
-    let n = os::arg(i, &mut word);
-    check::same(&word[..n], b"--help")
-}
-
-// Reads a text to its end, or until the room is full. Where the first read fails, as on a directory, that is told;
-// a later one that fails counts as the end of the text.
-pub fn read_text(program: &[u8], name: &[u8], fd: i32, room: &mut [u8]) -> Read
-    ensures { λ r. ⌜ Within r (now (room .exit)) ⌝ }
-{
-    let got = libc::read(fd, room);
-    if got < 0 {
-        fail(program, name);
-        return Read::Failed;
-    }
-    let n = io::count(got, room);
-    if n == 0 {
-        return Read::Bytes(0);
-    }
-    let more = io::read_full(fd, &mut room[n..]);
-    Read::Bytes(n + more)
-}
-
-// Reads the text in the file of a name.
-pub fn read_file(program: &[u8], name: &[u8], room: &mut [u8]) -> Read
-    ensures { λ r. ⌜ Within r (now (room .exit)) ⌝ }
-{
+// Opens the file of a name to be read, and answers its descriptor, or -1 where it cannot be read, which is told.
+// A directory can be opened, and a read of no byte tells that it cannot be read.
+pub fn open(program: &[u8], name: &[u8]) -> i32 {
     let fd = os::open_read(name);
     if fd < 0 {
         fail(program, name);
-        return Read::Failed;
+        return -1;
     }
-    let r = read_text(program, name, fd, room);
-    libc::close(fd);
-    r
+    let mut none = [0u8; 0];
+    if libc::read(fd, &mut none) < 0 {
+        fail(program, name);
+        libc::close(fd);
+        return -1;
+    }
+    fd
 }
 
-// What a line of a map says.
+// Says what a line of a map must be.
 fn warn_form(line: usize) {
     match line {
         1 => warn(b"expected width= and a number from 1 to 64\n"),
@@ -92,28 +62,36 @@ fn warn_letter(column: usize, b: u8) {
 }
 
 // A row of another length than the width.
-fn warn_row(cells: usize, width: usize, words: &[u8]) {
-    warn_number(b"the row has ", cells);
+fn warn_row(words: &[u8], cells: usize, width: usize) {
+    warn_number(words, cells);
     warn_number(b" cells, and the width is ", width);
-    warn(words);
+    warn(b"\n");
 }
 
-// What is wrong at a line, and how to mend it.
+// Says what is wrong at a line, and how to mend it.
 fn warn_fault(line: usize, fault: Fault) {
     match fault {
         Fault::TooLong => warn(b"the map is longer than 8192 bytes\n"),
-        Fault::ByteOrderMark => warn(b"a byte order mark stands before width=: save the text without it (tail -c +4)\n"),
+        Fault::ByteOrderMark => warn(
+            b"a byte order mark stands before width=; without it (tail -c +4) the line is right\n",
+        ),
         Fault::Missing => {
-            warn(b"missing, the text ends before it: ");
+            warn(b"missing, the text ends before it; ");
             warn_form(line);
         }
-        Fault::CarriageReturn => warn(b"a carriage return stands in it: a line ends in a newline alone (tr -d '\\r')\n"),
-        Fault::NoNewline => warn(b"no newline stands at its end: the last line has one too (echo >> FILE)\n"),
+        Fault::CarriageReturn => warn(
+            b"it has a carriage return; a line ends in a newline alone (tr -d '\\r' mends them all)\n",
+        ),
+        Fault::NoNewline => warn(
+            b"it has no newline at its end; the last line has one too (echo >> FILE adds it)\n",
+        ),
         Fault::Form => warn_form(line),
         Fault::Letter(column, b) => warn_letter(column, b),
-        Fault::Short(cells, width) => warn_row(cells, width, b": too few\n"),
-        Fault::Long(cells, width) => warn_row(cells, width, b": too many\n"),
-        Fault::TooMany => warn(b"text after the last row: the height says how many rows there are, and an empty line is text too\n"),
+        Fault::Short(cells, width) => warn_row(b"the row is too short: it has ", cells, width),
+        Fault::Long(cells, width) => warn_row(b"the row is too long: it has ", cells, width),
+        Fault::TooMany => warn(
+            b"there is text after the last row, be it an empty line; the height says how many rows there are\n",
+        ),
     }
 }
 

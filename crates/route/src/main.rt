@@ -1,27 +1,55 @@
 // Reads a map on standard input, or in the file that is named, to its end and prints the route, as the document has it.
-// What is wrong with a bad map is said in words too, on standard error.
+// What is wrong with a map is said in words too, on standard error.
 use libc::STDERR_FILENO;
 use libc::STDIN_FILENO;
 use libc::STDOUT_FILENO;
-use prompt::Read;
 
-// Prints the route of a map text of that name.
-fn print_route(name: &[u8], text: &[u8]) {
-    let mut out = [0u8; router::PRINT];
-    let m = router::route_text(text, &mut out);
-    if !io::write_all(STDOUT_FILENO, &out[..m]) {
+fn say(words: &[u8]) {
+    if !io::write_all(STDOUT_FILENO, words) {
         os::fail(b"route: standard output");
     }
-    prompt::tell_fault(b"route: ", name, text);
 }
 
-fn route_input() {
+fn say_help() {
+    say(
+        b"route finds a way for a cart on the floor of a map, and prints it as numbers.
+
+  route FILE      the map in this file
+  route           the map on standard input
+  route --help    these words
+
+It prints
+  result=0        0 where a way was found, else why not: 4 where the start and the goal are not
+                  joined, 6 where nothing is left to search, 7, 8 and 9 at a limit of the search
+  pops=3          the cells that the search took up to look at
+  waypoints=3     how many waypoints follow, from the start to the goal
+  clear=1         1 where each waypoint after the first is on a free cell, else 0
+  point=0,0       a waypoint, x and y
+or, of a text that is no map,
+  result=12
+  line=7          the first bad or missing line from 1; 0 where there are more than 8192 bytes
+What is wrong there, or with the file, is said on standard error.
+
+A map is lines of text, each ended by a newline; x goes to the right and y down, from 0:
+  width=3         a number from 1 to 64
+  height=1        a number from 1 to 64
+  diagonal=1      1 where a cart may go aslant, 0 where not
+  start=0,0       x and y, from -1024 to 1023
+  goal=2,0        the same
+  row=.#.         as many rows as the height, as many cells as the width, and nothing after them
+The program ends with status 0, whatever came of it.
+",
+    );
+}
+
+// Prints the route of the map that can be read from a file descriptor, and what is wrong with it.
+fn route_from(name: &[u8], fd: i32) {
     let mut text = [0u8; 8193];
-    let r = prompt::read_text(b"route: ", b"standard input", STDIN_FILENO, &mut text);
-    let Read::Bytes(n) = r else {
-        return;
-    };
-    print_route(b"standard input", &text[..n]);
+    let n = io::read_full(fd, &mut text);
+    let mut out = [0u8; router::PRINT];
+    let m = router::route_text(&text[..n], &mut out);
+    say(&out[..m]);
+    prompt::tell_fault(b"route: ", name, &text[..n]);
 }
 
 // Prints the route of the map in the file that argument 1 names.
@@ -33,27 +61,27 @@ fn route_file() {
         return;
     }
     let name = &path[..length];
-    let mut text = [0u8; 8193];
-    let r = prompt::read_file(b"route: ", name, &mut text);
-    let Read::Bytes(n) = r else {
+    if check::same(name, b"--help") {
+        say_help();
         return;
-    };
-    print_route(name, &text[..n]);
+    }
+    let fd = prompt::open(b"route: ", name);
+    if 0 <= fd {
+        route_from(name, fd);
+        libc::close(fd);
+    }
 }
 
 fn main() {
     let n = os::arg_count();
     if n < 2 {
-        route_input();
-        return;
+        route_from(b"standard input", STDIN_FILENO);
+    } else if n == 2 {
+        route_file();
+    } else {
+        io::write_all(
+            STDERR_FILENO,
+            b"route: one file at a time; route --help says more\n",
+        );
     }
-    if prompt::asks_help(1) {
-        io::write_all(STDOUT_FILENO, b"help\n");
-        return;
-    }
-    if 2 < n {
-        io::write_all(STDERR_FILENO, b"route: one file at a time; route --help says more\n");
-        return;
-    }
-    route_file();
 }

@@ -1,5 +1,6 @@
 // Reads a map on standard input, or those in the files that are named, and draws each floor with its route:
-// S start, G goal, o waypoint, * walked, # blocked, . free. What came of the search stands under it, in words.
+// S start, G goal, X both, as small letters where the cell is blocked; o waypoint, * walked, # blocked, . free.
+// What came of the search stands under it, in words.
 use finder::Answer;
 use finder::Outcome;
 use grid::Grid;
@@ -9,26 +10,46 @@ use paths::Written;
 use points::Point;
 use points::Refusal;
 
-fn say(words: &[u8]) {
-    if !io::write_all(STDOUT_FILENO, words) {
-        os::fail(b"show: standard output");
-    }
+// What became of standard output: nothing is written yet, something is, or a write failed, which was told.
+enum Out {
+    Fresh,
+    Begun,
+    Failed,
 }
 
-fn say_number(words: &[u8], n: usize) {
-    say(words);
-    io::print_decimal(STDOUT_FILENO, n as u64);
+// Writes words, but none after a write that failed.
+fn say(out: Out, words: &[u8]) -> Out {
+    if let Out::Failed = out {
+        return out;
+    }
+    if io::write_all(STDOUT_FILENO, words) {
+        return Out::Begun;
+    }
+    os::fail(b"show: standard output");
+    Out::Failed
+}
+
+fn say_number(out: Out, words: &[u8], n: usize) -> Out {
+    let mut digits = [0u8; 20];
+    let k = io::decimal(n as u64, &mut digits);
+    say(say(out, words), &digits[..k])
+}
+
+// The cell of a point, or one past the largest floor where the point is outside.
+fn cell_at(w: usize, h: usize, p: Point) -> usize {
+    if !cells::sized(w, h) {
+        return 4096;
+    }
+    let c = cells::cell_of(w, h, p);
+    if w * h <= c {
+        return 4096;
+    }
+    c
 }
 
 // Draws a mark at a point, where the point is inside.
 fn put(canvas: &mut [u8], w: usize, h: usize, p: Point, mark: u8) {
-    if !cells::sized(w, h) {
-        return;
-    }
-    let c = cells::cell_of(w, h, p);
-    if w * h <= c {
-        return;
-    }
+    let c = cell_at(w, h, p);
     if c < canvas.len() {
         canvas[c] = mark;
     }
@@ -58,73 +79,56 @@ fn put_all(canvas: &mut [u8], w: usize, h: usize, list: &[i32], points: usize, m
     }
 }
 
-// How a cell is drawn.
-fn glyph(blocked: &[u8], i: usize) -> u8 {
-    if blocked.len() <= i {
-        return b'.';
+// A cell of the table as it is drawn; what is drawn on it stays.
+fn glyph(cell: u8) -> u8 {
+    match cell {
+        0 => b'.',
+        1 => b'#',
+        _ => cell,
     }
-    if blocked[i] == 0 {
-        return b'.';
-    }
-    b'#'
 }
 
-// The cells of a floor.
-fn put_cells(canvas: &mut [u8], blocked: &[u8]) {
+// Draws the cells that nothing is drawn on.
+fn put_cells(canvas: &mut [u8]) {
     let mut i: usize = 0;
     while i < canvas.len() {
-        canvas[i] = glyph(blocked, i);
+        canvas[i] = glyph(canvas[i]);
         i += 1;
     }
 }
 
 // The rows, a line each.
-fn say_rows(canvas: &[u8], w: usize, h: usize) {
+fn say_rows(out: Out, canvas: &[u8], w: usize, h: usize) -> Out {
+    let mut now = out;
     let mut from: usize = 0;
     let mut left = h;
     while 0 < left {
         let to = std::num::wrapping_add_usize(from, w);
         if to < from {
-            return;
+            return now;
         }
         if canvas.len() < to {
-            return;
+            return now;
         }
-        say(&canvas[from..to]);
-        say(b"\n");
+        now = say(say(now, &canvas[from..to]), b"\n");
         from = to;
         left -= 1;
     }
+    now
 }
 
 // Why there is no route.
-fn say_refusal(r: Refusal) {
+fn say_refusal(out: Out, r: Refusal) -> Out {
     match r {
-        Refusal::NoRoute => say(b"no route: the start and the goal are not joined"),
-        Refusal::Exhausted => say(b"no route found: all that the search reaches was searched"),
-        Refusal::Depth => say(b"refused: jumps nest deeper than the limit"),
-        Refusal::Fringe => say(b"refused: more open cells than the limit"),
-        Refusal::Pops => say(b"refused: more cells to look at than the limit"),
-        _ => say_number(b"refused with number ", r.told().number as usize),
-    }
-}
-
-// What was expected at a bad line.
-fn say_bad(line: usize) {
-    if line == 0 {
-        say(b"the map is longer than 8192 bytes\n");
-        return;
-    }
-    say_number(b"line ", line);
-    match line {
-        1 => say(b": expected width= and a number from 1 to 64\n"),
-        2 => say(b": expected height= and a number from 1 to 64\n"),
-        3 => say(b": expected diagonal=0 or diagonal=1\n"),
-        4 => say(b": expected start=x,y with numbers from -1024 to 1023\n"),
-        5 => say(b": expected goal=x,y with numbers from -1024 to 1023\n"),
-        _ => say(
-            b": expected row= and a . or # for each column, as many rows as the height, and nothing after them\n",
+        Refusal::NoRoute => say(out, b"no route: the start and the goal are not joined"),
+        Refusal::Exhausted => say(
+            out,
+            b"no route found: all that the search reaches was searched",
         ),
+        Refusal::Depth => say(out, b"refused: jumps nest deeper than the limit"),
+        Refusal::Fringe => say(out, b"refused: more open cells than the limit"),
+        Refusal::Pops => say(out, b"refused: more cells to look at than the limit"),
+        _ => say_number(out, b"refused with number ", r.told().number as usize),
     }
 }
 
@@ -152,73 +156,171 @@ fn put_route(canvas: &mut [u8], w: usize, h: usize, list: &[i32], outcome: Outco
     put_all(canvas, w, h, list, n, b'o');
 }
 
-// What came of a search.
-fn say_answer(answer: Answer) {
-    let outcome = answer.outcome;
-    match outcome {
-        Outcome::Found(n, _) => say_number(b"found, waypoints: ", n),
-        Outcome::Refused(r) => say_refusal(r),
+// How an end of the way is drawn: with its letter, the small one on a blocked cell, and nowhere, as ?, outside the floor.
+fn letter(blocked: &[u8], w: usize, h: usize, p: Point, mark: u8) -> u8 {
+    let c = cell_at(w, h, p);
+    if blocked.len() <= c {
+        return b'?';
     }
-    say_number(b"\npops of the search: ", answer.pops);
-    say(b"\n");
+    if blocked[c] == 0 {
+        return mark;
+    }
+    std::num::wrapping_add_u8(mark, 32)
+}
+
+// The letter of the goal, which is drawn over the start.
+fn goal_mark(start: Point, goal: Point) -> u8 {
+    if start.x != goal.x {
+        return b'G';
+    }
+    if start.y != goal.y {
+        return b'G';
+    }
+    b'X'
+}
+
+// Says what is to be known of an end of the way, by its letter.
+fn say_end(out: Out, who: &[u8], letter: u8) -> Out {
+    if letter == b'?' {
+        return say(say(out, who), b" is outside the floor\n");
+    }
+    if letter < b'a' {
+        return out;
+    }
+    say(say(out, who), b" is on a blocked cell\n")
+}
+
+fn say_same(out: Out, mark: u8) -> Out {
+    if mark == b'G' {
+        return out;
+    }
+    say(out, b"the start is the goal\n")
+}
+
+// What came of a search.
+fn say_answer(out: Out, answer: Answer) -> Out {
+    let outcome = answer.outcome;
+    let told = match outcome {
+        Outcome::Found(n, _) => say_number(out, b"found, waypoints: ", n),
+        Outcome::Refused(r) => say_refusal(out, r),
+    };
+    say(
+        say_number(told, b"\npops of the search: ", answer.pops),
+        b"\n",
+    )
 }
 
 // Searches, draws and tells.
-fn draw(g: Grid, diagonal: bool, start: Point, goal: Point) {
+fn draw(out: Out, g: Grid, diagonal: bool, start: Point, goal: Point) -> Out {
     let w = g.width;
     let h = g.height;
-    let blocked = g.blocked;
-    let mut canvas = [b'.'; 4096];
-    put_cells(&mut canvas, &blocked);
+    let mut canvas = g.blocked;
+    let s = letter(&canvas, w, h, start, b'S');
+    let mark = goal_mark(start, goal);
+    let t = letter(&canvas, w, h, goal, mark);
     let mut list = [0i32; 8194];
     let answer = router::searched(&mut list, g, diagonal, start, goal);
     let outcome = answer.outcome;
     put_route(&mut canvas, w, h, &list, outcome);
-    put(&mut canvas, w, h, start, b'S');
-    put(&mut canvas, w, h, goal, b'G');
-    say_rows(&canvas, w, h);
-    say_answer(answer);
+    put(&mut canvas, w, h, start, s);
+    put(&mut canvas, w, h, goal, t);
+    put_cells(&mut canvas);
+    let drawn = say_rows(out, &canvas, w, h);
+    let told = say_same(say_answer(drawn, answer), mark);
+    say_end(say_end(told, b"the start", s), b"the goal", t)
+}
+
+// Writes the name of a file over its floor, where several are named, with an empty line before it.
+fn say_name(out: Out, name: &[u8], several: bool) -> Out {
+    if !several {
+        return out;
+    }
+    if let Out::Begun = out {
+        return say(say(say(out, b"\n"), name), b"\n");
+    }
+    say(say(out, name), b"\n")
+}
+
+// Shows the map of a text of that name.
+fn show_text(out: Out, name: &[u8], text: &[u8], several: bool) -> Out {
+    let m = floors::read_map(text);
+    let outcome = m.outcome;
+    if let grid::Outcome::Refused(_) = outcome {
+        prompt::tell_fault(b"show: ", name, text);
+        return out;
+    }
+    let rebuilt = grid::generate_components(m.grid, m.diagonal);
+    let named = say_name(out, name, several);
+    draw(named, rebuilt.grid, m.diagonal, m.start, m.goal)
 }
 
 // Shows the map that can be read from a file descriptor.
-fn show_from(fd: i32) {
+fn show_from(out: Out, name: &[u8], fd: i32, several: bool) -> Out {
     let mut text = [0u8; 8193];
     let n = io::read_full(fd, &mut text);
-    let m = floors::read_map(&text[..n]);
-    let outcome = m.outcome;
-    if let grid::Outcome::Refused(r) = outcome {
-        say_bad(r.told().line);
-        return;
+    show_text(out, name, &text[..n], several)
+}
+
+// Shows the map in the file of a name.
+fn show_named(out: Out, name: &[u8], several: bool) -> Out {
+    let fd = prompt::open(b"show: ", name);
+    if fd < 0 {
+        return out;
     }
-    let rebuilt = grid::generate_components(m.grid, m.diagonal);
-    draw(rebuilt.grid, m.diagonal, m.start, m.goal);
+    let shown = show_from(out, name, fd, several);
+    libc::close(fd);
+    shown
+}
+
+fn say_help(out: Out) -> Out {
+    say(
+        out,
+        b"show draws the floor of a map, with the way of a cart from its start to its goal.
+
+  show FILE...    the maps in these files, each under its name where there are several
+  show            the map on standard input
+  show --help     these words
+
+S is the start, G the goal, X both at once; s, g and x the same on a blocked cell.
+o is a waypoint, * a cell between two waypoints, # a blocked cell, . a free one.
+Below stand what came of the search and its pops, the cells that it took up to look at.
+
+A map is lines of text, each ended by a newline; x goes to the right and y down, from 0:
+  width=3         a number from 1 to 64
+  height=1        a number from 1 to 64
+  diagonal=1      1 where a cart may go aslant, 0 where not
+  start=0,0       x and y, from -1024 to 1023
+  goal=2,0        the same
+  row=.#.         as many rows as the height, as many cells as the width, and nothing after them
+
+What is wrong with a map is said on standard error, with its line; the other files are shown.
+",
+    )
 }
 
 // Shows the map in the file that an argument names.
-fn show_file(i: usize) {
+fn show_file(out: Out, i: usize, several: bool) -> Out {
     let mut path = io::buffer();
     let length = os::arg(i, &mut path);
     if os::errno() != 0 {
         os::fail(b"show: file name");
-        return;
+        return out;
     }
     let name = &path[..length];
-    let fd = os::open_read(name);
-    if fd < 0 {
-        os::fail(name);
-        return;
+    if check::same(name, b"--help") {
+        return say_help(out);
     }
-    show_from(fd);
-    libc::close(fd);
+    show_named(out, name, several)
 }
 
 fn main() {
     let n = os::arg_count();
     if n < 2 {
-        show_from(STDIN_FILENO);
+        show_from(Out::Fresh, b"standard input", STDIN_FILENO, false);
         return;
     }
+    let mut out = Out::Fresh;
     for i in 1..n {
-        show_file(i);
+        out = show_file(out, i, 2 < n);
     }
 }
