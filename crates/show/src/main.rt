@@ -10,8 +10,10 @@ use paths::Written;
 use points::Point;
 use points::Refusal;
 
-// What became of standard output: nothing is written yet, something is, or a write failed, which was told.
+// What became of standard output: nothing is written yet, and one floor alone is to be or several; something is written;
+// or a write failed, which was told.
 enum Out {
+    Alone,
     Fresh,
     Begun,
     Failed,
@@ -55,27 +57,16 @@ fn put(canvas: &mut [u8], w: usize, h: usize, p: Point, mark: u8) {
     }
 }
 
-fn point_at(list: &[i32], i: usize) -> Point {
-    if list.len() < 2 {
-        return Point { x: -1, y: -1 };
+// Draws a mark at each point of a list that is inside.
+fn put_all(canvas: &mut [u8], w: usize, h: usize, list: &[i32], mark: u8) {
+    if list.len() == 0 {
+        return;
     }
-    if list.len() - 2 < i {
-        return Point { x: -1, y: -1 };
-    }
-    Point {
-        x: list[i],
-        y: list[i + 1],
-    }
-}
-
-// Draws a mark at each of the first points of a list.
-fn put_all(canvas: &mut [u8], w: usize, h: usize, list: &[i32], points: usize, mark: u8) {
+    let last = list.len() - 1;
     let mut i: usize = 0;
-    let mut left = points;
-    while 0 < left {
-        put(canvas, w, h, point_at(list, i), mark);
-        i = std::num::wrapping_add_usize(i, 2);
-        left -= 1;
+    while i < last {
+        put(canvas, w, h, pairs::point_at(list, i), mark);
+        i += 2;
     }
 }
 
@@ -132,28 +123,24 @@ fn say_refusal(out: Out, r: Refusal) -> Out {
     }
 }
 
-// The walk along the first waypoints of a list; how many points it has, 0 where it is longer than the room.
-fn walk(list: &[i32], waypoints: usize, path: &mut [i32]) -> usize {
+// The walk along the first waypoints of a list, where it fits.
+fn walk(list: &[i32], waypoints: usize, path: &mut [i32]) {
     if list.len() / 2 < waypoints {
-        return 0;
+        return;
     }
     let end = 2 * waypoints;
-    let r = paths::waypoints_to_path(&list[..end], path);
-    match r {
-        Written::Points(n) => n,
-        Written::Refused(_) => 0,
-    }
+    paths::waypoints_to_path(&list[..end], path);
 }
 
-// Draws a route that was found: its walk, and over it its waypoints.
+// Draws a route that was found: its walk, and over it its waypoints. The points of no list are outside.
 fn put_route(canvas: &mut [u8], w: usize, h: usize, list: &[i32], outcome: Outcome) {
     let Outcome::Found(n, _) = outcome else {
         return;
     };
-    let mut path = [0i32; 16384];
-    let walked = walk(list, n, &mut path);
-    put_all(canvas, w, h, &path, walked, b'*');
-    put_all(canvas, w, h, list, n, b'o');
+    let mut path = [-1i32; 16384];
+    walk(list, n, &mut path);
+    put_all(canvas, w, h, &path, b'*');
+    put_all(canvas, w, h, list, b'o');
 }
 
 // How an end of the way is drawn: with its letter, the small one on a blocked cell, and nowhere, as ?, outside the floor.
@@ -190,18 +177,19 @@ fn say_end(out: Out, who: &[u8], letter: u8) -> Out {
     say(say(out, who), b" is on a blocked cell\n")
 }
 
-fn say_same(out: Out, mark: u8) -> Out {
-    if mark == b'G' {
-        return out;
+fn say_found(out: Out, waypoints: usize) -> Out {
+    let told = say_number(out, b"found, waypoints: ", waypoints);
+    if waypoints == 1 {
+        return say(told, b", the start is the goal");
     }
-    say(out, b"the start is the goal\n")
+    told
 }
 
 // What came of a search.
 fn say_answer(out: Out, answer: Answer) -> Out {
     let outcome = answer.outcome;
     let told = match outcome {
-        Outcome::Found(n, _) => say_number(out, b"found, waypoints: ", n),
+        Outcome::Found(n, _) => say_found(out, n),
         Outcome::Refused(r) => say_refusal(out, r),
     };
     say(
@@ -216,9 +204,8 @@ fn draw(out: Out, g: Grid, diagonal: bool, start: Point, goal: Point) -> Out {
     let h = g.height;
     let mut canvas = g.blocked;
     let s = letter(&canvas, w, h, start, b'S');
-    let mark = goal_mark(start, goal);
-    let t = letter(&canvas, w, h, goal, mark);
-    let mut list = [0i32; 8194];
+    let t = letter(&canvas, w, h, goal, goal_mark(start, goal));
+    let mut list = [-1i32; 8194];
     let answer = router::searched(&mut list, g, diagonal, start, goal);
     let outcome = answer.outcome;
     put_route(&mut canvas, w, h, &list, outcome);
@@ -226,50 +213,37 @@ fn draw(out: Out, g: Grid, diagonal: bool, start: Point, goal: Point) -> Out {
     put(&mut canvas, w, h, goal, t);
     put_cells(&mut canvas);
     let drawn = say_rows(out, &canvas, w, h);
-    let told = say_same(say_answer(drawn, answer), mark);
+    let told = say_answer(drawn, answer);
     say_end(say_end(told, b"the start", s), b"the goal", t)
 }
 
-// Writes the name of a file over its floor, where several are named, with an empty line before it.
-fn say_name(out: Out, name: &[u8], several: bool) -> Out {
-    if !several {
-        return out;
+// Writes the name of a file over its floor, where several are named, and an empty line between floors.
+fn say_name(out: Out, name: &[u8]) -> Out {
+    match out {
+        Out::Alone => out,
+        Out::Begun => say(say(say(out, b"\n"), name), b"\n"),
+        _ => say(say(out, name), b"\n"),
     }
-    if let Out::Begun = out {
-        return say(say(say(out, b"\n"), name), b"\n");
-    }
-    say(say(out, name), b"\n")
-}
-
-// Shows the map of a text of that name.
-fn show_text(out: Out, name: &[u8], text: &[u8], several: bool) -> Out {
-    let m = floors::read_map(text);
-    let outcome = m.outcome;
-    if let grid::Outcome::Refused(_) = outcome {
-        prompt::tell_fault(b"show: ", name, text);
-        return out;
-    }
-    let rebuilt = grid::generate_components(m.grid, m.diagonal);
-    let named = say_name(out, name, several);
-    draw(named, rebuilt.grid, m.diagonal, m.start, m.goal)
 }
 
 // Shows the map that can be read from a file descriptor.
-fn show_from(out: Out, name: &[u8], fd: i32, several: bool) -> Out {
+fn show_from(out: Out, name: &[u8], fd: i32) -> Out {
     let mut text = [0u8; 8193];
     let n = io::read_full(fd, &mut text);
-    show_text(out, name, &text[..n], several)
-}
-
-// Shows the map in the file of a name.
-fn show_named(out: Out, name: &[u8], several: bool) -> Out {
-    let fd = prompt::open(b"show: ", name);
-    if fd < 0 {
+    let m = floors::read_map(&text[..n]);
+    let outcome = m.outcome;
+    if let grid::Outcome::Refused(_) = outcome {
+        prompt::tell_fault(b"show: ", name, &text[..n]);
         return out;
     }
-    let shown = show_from(out, name, fd, several);
-    libc::close(fd);
-    shown
+    let rebuilt = grid::generate_components(m.grid, m.diagonal);
+    draw(
+        say_name(out, name),
+        rebuilt.grid,
+        m.diagonal,
+        m.start,
+        m.goal,
+    )
 }
 
 fn say_help(out: Out) -> Out {
@@ -299,7 +273,7 @@ What is wrong with a map is said on standard error, with its line; the other fil
 }
 
 // Shows the map in the file that an argument names.
-fn show_file(out: Out, i: usize, several: bool) -> Out {
+fn show_file(out: Out, i: usize) -> Out {
     let mut path = io::buffer();
     let length = os::arg(i, &mut path);
     if os::errno() != 0 {
@@ -310,17 +284,23 @@ fn show_file(out: Out, i: usize, several: bool) -> Out {
     if check::same(name, b"--help") {
         return say_help(out);
     }
-    show_named(out, name, several)
+    let fd = prompt::open(b"show: ", name);
+    if fd < 0 {
+        return out;
+    }
+    let shown = show_from(out, name, fd);
+    libc::close(fd);
+    shown
 }
 
 fn main() {
     let n = os::arg_count();
     if n < 2 {
-        show_from(Out::Fresh, b"standard input", STDIN_FILENO, false);
+        show_from(Out::Alone, b"standard input", STDIN_FILENO);
         return;
     }
-    let mut out = Out::Fresh;
+    let mut out = if n == 2 { Out::Alone } else { Out::Fresh };
     for i in 1..n {
-        out = show_file(out, i, 2 < n);
+        out = show_file(out, i);
     }
 }
