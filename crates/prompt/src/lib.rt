@@ -1,6 +1,7 @@
-// What the programs `route` and `show` say on standard error, in words. A program names itself as `route: `, with the colon and the space.
+// What the programs `route` and `show` say in words: what is wrong, on standard error, and help. A program names itself as `route: `, with the colon and the space.
 use faults::Fault;
 use libc::STDERR_FILENO;
+use libc::STDOUT_FILENO;
 use maps::Reading;
 
 // A write that fails on standard error can be told to nobody.
@@ -11,6 +12,27 @@ fn warn(words: &[u8]) {
 fn warn_number(words: &[u8], n: usize) {
     warn(words);
     io::print_decimal(STDERR_FILENO, n as u64);
+}
+
+// Writes a program's words of help on standard output, and after them the form of a map; whether it could.
+pub fn help(words: &[u8]) -> bool {
+    if !io::write_all(STDOUT_FILENO, words) {
+        return false;
+    }
+    io::write_all(
+        STDOUT_FILENO,
+        b"
+A map is lines of text, each ended by a newline; x goes to the right and y down, from 0:
+  width=3         a number from 1 to 64
+  height=1        a number from 1 to 64
+  diagonal=1      1 where a cart may go diagonally, 0 where not
+  start=0,0       x and y, from -1024 to 1023
+  goal=2,0        the same
+  row=.#.         . free, # blocked; as many cells as the width, as many rows as the height,
+                  and nothing after them
+The program ends with status 0, whatever came of it.
+",
+    )
 }
 
 // Tells why the last call failed, in the system's words.
@@ -90,7 +112,7 @@ fn warn_fault(line: usize, fault: Fault) {
         Fault::Short(cells, width) => warn_row(b"the row is too short: it has ", cells, width),
         Fault::Long(cells, width) => warn_row(b"the row is too long: it has ", cells, width),
         Fault::TooMany => warn(
-            b"there is text after the last row, be it an empty line; the height says how many rows there are\n",
+            b"there is text after the last row, where an empty line counts too; the height says how many rows there are\n",
         ),
     }
 }

@@ -4,14 +4,8 @@ use libc::STDERR_FILENO;
 use libc::STDIN_FILENO;
 use libc::STDOUT_FILENO;
 
-fn say(words: &[u8]) {
-    if !io::write_all(STDOUT_FILENO, words) {
-        os::fail(b"route: standard output");
-    }
-}
-
 fn say_help() {
-    say(
+    if !prompt::help(
         b"route finds a way for a cart on the floor of a map, and prints it as numbers.
 
   route FILE      the map in this file
@@ -28,18 +22,11 @@ It prints
 or, of a text that is no map,
   result=12
   line=7          the first bad or missing line from 1; 0 where there are more than 8192 bytes
-What is wrong there, or with the file, is said on standard error.
-
-A map is lines of text, each ended by a newline; x goes to the right and y down, from 0:
-  width=3         a number from 1 to 64
-  height=1        a number from 1 to 64
-  diagonal=1      1 where a cart may go aslant, 0 where not
-  start=0,0       x and y, from -1024 to 1023
-  goal=2,0        the same
-  row=.#.         as many rows as the height, as many cells as the width, and nothing after them
-The program ends with status 0, whatever came of it.
+and says on standard error what is wrong there, or with the file.
 ",
-    );
+    ) {
+        os::fail(b"route: standard output");
+    }
 }
 
 // Prints the route of the map that can be read from a file descriptor, and what is wrong with it.
@@ -48,7 +35,9 @@ fn route_from(name: &[u8], fd: i32) {
     let n = io::read_full(fd, &mut text);
     let mut out = [0u8; router::PRINT];
     let m = router::route_text(&text[..n], &mut out);
-    say(&out[..m]);
+    if !io::write_all(STDOUT_FILENO, &out[..m]) {
+        os::fail(b"route: standard output");
+    }
     prompt::tell_fault(b"route: ", name, &text[..n]);
 }
 

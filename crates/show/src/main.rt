@@ -247,8 +247,10 @@ fn show_from(out: Out, name: &[u8], fd: i32) -> Out {
 }
 
 fn say_help(out: Out) -> Out {
-    say(
-        out,
+    if let Out::Failed = out {
+        return out;
+    }
+    if prompt::help(
         b"show draws the floor of a map, with the way of a cart from its start to its goal.
 
   show FILE...    the maps in these files, each under its name where there are several
@@ -257,19 +259,14 @@ fn say_help(out: Out) -> Out {
 
 S is the start, G the goal, X both at once; s, g and x the same on a blocked cell.
 o is a waypoint, * a cell between two waypoints, # a blocked cell, . a free one.
-Below stand what came of the search and its pops, the cells that it took up to look at.
-
-A map is lines of text, each ended by a newline; x goes to the right and y down, from 0:
-  width=3         a number from 1 to 64
-  height=1        a number from 1 to 64
-  diagonal=1      1 where a cart may go aslant, 0 where not
-  start=0,0       x and y, from -1024 to 1023
-  goal=2,0        the same
-  row=.#.         as many rows as the height, as many cells as the width, and nothing after them
-
-What is wrong with a map is said on standard error, with its line; the other files are shown.
+Below stand what came of the search, and its pops: the cells that it took up to look at.
+What is wrong with a map is said on standard error, and the other files are shown.
 ",
-    )
+    ) {
+        return Out::Begun;
+    }
+    os::fail(b"show: standard output");
+    Out::Failed
 }
 
 // Shows the map in the file that an argument names.

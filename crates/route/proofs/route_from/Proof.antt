@@ -30,11 +30,17 @@ route-text-requires c κs = search needs
 array-share-prefix-out : tie.Need-array-share-prefix-out
 array-share-prefix-out c = printed c
 
-slice-aggregate-say : tie.Need-slice-aggregate-say
-slice-aggregate-say c = sym (length-take-le (c .before .route-text .result) (c .before .route-text .last .1 .0) (printed (c .before)))
+slice-aggregate-write-all : tie.Need-slice-aggregate-write-all
+slice-aggregate-write-all c = sym (length-take-le (c .before .route-text .result) (c .before .route-text .last .1 .0) (printed (c .before)))
 
-say-requires : tie.Need-say-requires
-say-requires c κs = search needs
+write-all-requires : tie.Need-write-all-requires
+write-all-requires c κs = search needs
+
+slice-aggregate-fail : tie.Need-slice-aggregate-fail
+slice-aggregate-fail c = search needs
+
+fail-requires : tie.Need-fail-requires
+fail-requires c κs = search needs
 
 slice-aggregate-tell-fault : tie.Need-slice-aggregate-tell-fault
 slice-aggregate-tell-fault c = search needs
@@ -61,8 +67,10 @@ route-from-spec =
     slice-aggregate-route-text
     route-text-requires
     array-share-prefix-out
-    slice-aggregate-say
-    say-requires
+    slice-aggregate-write-all
+    write-all-requires
+    slice-aggregate-fail
+    fail-requires
     slice-aggregate-tell-fault
     array-share-prefix-text-2
     slice-aggregate-tell-fault-2
