@@ -219,11 +219,12 @@ fn draw(out: Out, g: Grid, diagonal: bool, start: Point, goal: Point) -> Out {
 
 // Writes the name of a file over its floor, where several are named, and an empty line between floors.
 fn say_name(out: Out, name: &[u8]) -> Out {
-    match out {
-        Out::Alone => out,
-        Out::Begun => say(say(say(out, b"\n"), name), b"\n"),
-        _ => say(say(out, name), b"\n"),
-    }
+    let apart = match out {
+        Out::Alone => return out,
+        Out::Begun => say(out, b"\n"),
+        _ => out,
+    };
+    say(say(apart, name), b"\n")
 }
 
 // Shows the map that can be read from a file descriptor.
