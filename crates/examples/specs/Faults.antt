@@ -7,7 +7,7 @@ use Rattle.faults.specs.declared.Fault.the-variants.{TooLong, ByteOrderMark, Mi
 use Rattle.rows.specs.Rows.{rowWord}
 use Rattle.examples.specs.Texts.{headOn, wall, badRow}
 
--- `row=` and other cells than `...`
+-- document 01's map with other cells in its row
 abbrev pub rowOn : List ℕ → List ℕ
 rowOn cells = headOn 49 (rowWord ++ cells)
 
@@ -22,7 +22,7 @@ pub record Faults : Type 0 where
   pub missing : (faultOf (headOn 49 []) 6 ≡ Missing) × (faultOf [] 1 ≡ Missing)
   -- no newline told as a missing line
   pub newline : faultOf (rowOn (46 ∷ 46 ∷ 46 ∷ [])) 6 ≡ NoNewline
-  -- a carriage return told as a letter, or as another form of the line: `row=.` and `width` end in it
+  -- a carriage return told as a letter, or as a line of another form: one ends `width=3` and `row=.`
   pub return : (faultOf (119 ∷ 105 ∷ 100 ∷ 116 ∷ 104 ∷ 61 ∷ 51 ∷ 13 ∷ 10 ∷ []) 1 ≡ CarriageReturn) × (faultOf (rowOn (46 ∷ 13 ∷ 10 ∷ [])) 6 ≡ CarriageReturn)
   -- a byte order mark not seen
   pub mark : faultOf (markWord ++ headOn 49 wall) 1 ≡ ByteOrderMark

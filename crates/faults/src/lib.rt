@@ -5,8 +5,9 @@ ghost use lib.ListN.{length, drop};
 ghost use Rattle.faults.specs.Faults.{newlines, fromLine, saidIn, lineFault, counted, cellsFault, rowFault, faultOf};
 use text::Num;
 
-// What is wrong: at the line that is refused, but for the first two. A row comes with the count of its cells and the width,
-// a letter that is no cell with its column, from 0, and its byte.
+// What is wrong with a text at the line that is refused. TooLong and ByteOrderMark speak of the whole text, Missing of a text that ends before the line,
+// TooMany of text after the last row, Form of a line that is not what its place asks. A letter that is no cell comes with its column, from 0, and its byte;
+// a row that is too short or too long with the count of its cells and the width.
 pub enum Fault {
     TooLong,
     ByteOrderMark,

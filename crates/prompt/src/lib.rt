@@ -1,4 +1,5 @@
-// What the programs `route` and `show` say in words: what is wrong, on standard error, and help. A program names itself as `route: `, with the colon and the space.
+// What the programs `route` and `show` say alike, in words: what is wrong, on standard error, and help.
+// A program names itself as `route: `, with the colon and the space.
 use faults::Fault;
 use libc::STDERR_FILENO;
 use libc::STDOUT_FILENO;
@@ -95,7 +96,7 @@ fn warn_fault(line: usize, fault: Fault) {
     match fault {
         Fault::TooLong => warn(b"the map is longer than 8192 bytes\n"),
         Fault::ByteOrderMark => warn(
-            b"a byte order mark stands before width=; without it (tail -c +4) the line is right\n",
+            b"a byte order mark stands before width=; save the text without it (tail -c +4 takes it off)\n",
         ),
         Fault::Missing => {
             warn(b"missing, the text ends before it; ");

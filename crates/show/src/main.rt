@@ -6,7 +6,6 @@ use finder::Outcome;
 use grid::Grid;
 use libc::STDIN_FILENO;
 use libc::STDOUT_FILENO;
-use paths::Written;
 use points::Point;
 use points::Refusal;
 
@@ -31,6 +30,7 @@ fn say(out: Out, words: &[u8]) -> Out {
     Out::Failed
 }
 
+// Writes words and a number after them.
 fn say_number(out: Out, words: &[u8], n: usize) -> Out {
     let mut digits = [0u8; 20];
     let k = io::decimal(n as u64, &mut digits);
@@ -177,6 +177,7 @@ fn say_end(out: Out, who: &[u8], letter: u8) -> Out {
     say(say(out, who), b" is on a blocked cell\n")
 }
 
+// Says that a way was found; it has one waypoint where the start is the goal.
 fn say_found(out: Out, waypoints: usize) -> Out {
     let told = say_number(out, b"found, waypoints: ", waypoints);
     if waypoints == 1 {
