@@ -9,8 +9,8 @@ use libc::STDOUT_FILENO;
 use points::Point;
 use points::Refusal;
 
-// What became of standard output: nothing is written yet, and one floor alone is to be or several; something is written;
-// or a write failed, which was told.
+// What became of standard output. Nothing is written yet, and one floor alone is to be (Alone) or several (Fresh); something is written (Begun);
+// or a write failed, which was told (Failed).
 enum Out {
     Alone,
     Fresh,
@@ -123,7 +123,7 @@ fn say_refusal(out: Out, r: Refusal) -> Out {
     }
 }
 
-// The walk along the first waypoints of a list, where it fits.
+// Writes the walk along the first waypoints of a list to path, where it fits.
 fn walk(list: &[i32], waypoints: usize, path: &mut [i32]) {
     if list.len() / 2 < waypoints {
         return;
@@ -132,7 +132,7 @@ fn walk(list: &[i32], waypoints: usize, path: &mut [i32]) {
     paths::waypoints_to_path(&list[..end], path);
 }
 
-// Draws a route that was found: its walk, and over it its waypoints. The points of no list are outside.
+// Draws a route that was found: its walk, and over it its waypoints. What is left of the two lists are points outside, which are drawn nowhere.
 fn put_route(canvas: &mut [u8], w: usize, h: usize, list: &[i32], outcome: Outcome) {
     let Outcome::Found(n, _) = outcome else {
         return;
@@ -199,7 +199,7 @@ fn say_answer(out: Out, answer: Answer) -> Out {
     )
 }
 
-// Searches, draws and tells.
+// Searches, draws the way on a copy of the grid's cells, and tells what came of it.
 fn draw(out: Out, g: Grid, diagonal: bool, start: Point, goal: Point) -> Out {
     let w = g.width;
     let h = g.height;
