@@ -13,7 +13,7 @@ pub enum Rows {
 }
 
 // Whether a byte is a cell.
-fn is_cell(b: u8) -> bool
+pub fn is_cell(b: u8) -> bool
     ensures { λ r. ⌜ r ≡ isCell b ⌝ }
 {
     if b == 46 {

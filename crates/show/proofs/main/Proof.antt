@@ -6,13 +6,16 @@ use Rattle.show.proofs.main.Statement.{statement}
 use Rattle.show.proofs.main.Tie as tie
 
 abbrev Inv-loop : tie.InvT-loop
-Inv-loop n i₀ i = i ≤ n
+Inv-loop n out₀ i₀ out i = i ≤ n
 
 abbrev μ-loop : tie.MeasureT-loop
-μ-loop n i₀ i = n - i
+μ-loop n out₀ i₀ out i = n - i
 
 arg-count-requires : tie.Need-arg-count-requires Inv-loop μ-loop
 arg-count-requires c κs = search needs
+
+slice-aggregate-show-from : tie.Need-slice-aggregate-show-from Inv-loop μ-loop
+slice-aggregate-show-from c = search needs
 
 show-from-requires : tie.Need-show-from-requires Inv-loop μ-loop
 show-from-requires c κs = search needs
@@ -45,6 +48,7 @@ main-spec =
     Inv-loop
     μ-loop
     arg-count-requires
+    slice-aggregate-show-from
     show-from-requires
     returns
     loop-holds

@@ -1,5 +1,6 @@
--- `show::put_all` is safe: the measure is what is left of the count. Assumes nothing.
-use mathlib.Core.Path.{_≡_, refl, _∙_}
+-- `show::put_all` is safe: the canvas keeps its length, and a point that is read stands before the list's end. The measure is what is left of the list. Assumes nothing.
+use mathlib.Core.Path.{_≡_, refl}
+use Prim.Native.Nat.{_-_}
 use lib.ListN.{length}
 use native.Mathlib.Omega.{arith}
 use borrow.Author.Needs.{needs}
@@ -7,25 +8,28 @@ use Rattle.show.proofs.put_all.Statement.{statement}
 use Rattle.show.proofs.put_all.Tie as tie
 
 abbrev Inv-loop : tie.InvT-loop
-Inv-loop canvas₀ w h list points mark i₀ left₀ canvas i left = length canvas ≡ length canvas₀
+Inv-loop canvas₀ w h list mark last i₀ canvas i = length canvas ≡ length canvas₀
 
 abbrev μ-loop : tie.MeasureT-loop
-μ-loop canvas₀ w h list points mark i₀ left₀ canvas i left = left
+μ-loop canvas₀ w h list mark last i₀ canvas i = last - i
+
+returns : tie.Need-returns Inv-loop μ-loop
+returns c = search needs
+
+sub-last : tie.Need-sub-last Inv-loop μ-loop
+sub-last c = search needs
 
 loop-holds : tie.Need-loop-holds Inv-loop μ-loop
 loop-holds c = refl
 
 point-at-requires : tie.Need-point-at-requires Inv-loop μ-loop
-point-at-requires c κs = search needs
+point-at-requires c κs = omega arith
 
 put-requires : tie.Need-put-requires Inv-loop μ-loop
 put-requires c κs = search needs
 
-wrapping-add-usize-requires : tie.Need-wrapping-add-usize-requires Inv-loop μ-loop
-wrapping-add-usize-requires c κs = search needs
-
-sub-left : tie.Need-sub-left Inv-loop μ-loop
-sub-left c = omega arith
+add-i : tie.Need-add-i Inv-loop μ-loop
+add-i c = omega arith
 
 loop-less : tie.Need-loop-less Inv-loop μ-loop
 loop-less c = omega arith
@@ -36,8 +40,8 @@ loop-again c = search needs
 same-length : tie.Need-same-length Inv-loop μ-loop
 same-length c = c .before .loop .inv
 
-returns : tie.Need-returns Inv-loop μ-loop
-returns c = search needs
+returns-2 : tie.Need-returns-2 Inv-loop μ-loop
+returns-2 c = search needs
 
 pub put-all-spec : {M : Type 1} → statement M
 put-all-spec =
@@ -45,12 +49,13 @@ put-all-spec =
     (tie.spec
     Inv-loop
     μ-loop
+    returns
+    sub-last
     loop-holds
     point-at-requires
     put-requires
-    wrapping-add-usize-requires
-    sub-left
+    add-i
     loop-less
     loop-again
     same-length
-    returns)
+    returns-2)

@@ -1,5 +1,5 @@
--- `show::put_cells` is safe: the canvas keeps its length. Assumes nothing.
-use mathlib.Core.Path.{_≡_, refl, _∙_}
+-- `show::put_cells` is safe: the canvas keeps its length. The measure is what is left of it. Assumes nothing.
+use mathlib.Core.Path.{_≡_, refl}
 use lib.ListN.{length, length-set}
 use Prim.Native.Nat.{_-_}
 use native.Mathlib.Omega.{arith}
@@ -8,13 +8,16 @@ use Rattle.show.proofs.put_cells.Statement.{statement}
 use Rattle.show.proofs.put_cells.Tie as tie
 
 abbrev Inv-loop : tie.InvT-loop
-Inv-loop canvas₀ blocked i₀ canvas i = length canvas ≡ length canvas₀
+Inv-loop canvas₀ i₀ canvas i = length canvas ≡ length canvas₀
 
 abbrev μ-loop : tie.MeasureT-loop
-μ-loop canvas₀ blocked i₀ canvas i = length canvas₀ - i
+μ-loop canvas₀ i₀ canvas i = length canvas₀ - i
 
 loop-holds : tie.Need-loop-holds Inv-loop μ-loop
 loop-holds c = refl
+
+slice-read-glyph : tie.Need-slice-read-glyph Inv-loop μ-loop
+slice-read-glyph c = search needs
 
 glyph-requires : tie.Need-glyph-requires Inv-loop μ-loop
 glyph-requires c κs = search needs
@@ -44,6 +47,7 @@ put-cells-spec =
     Inv-loop
     μ-loop
     loop-holds
+    slice-read-glyph
     glyph-requires
     slice-write-canvas
     add-i

@@ -6,10 +6,10 @@ use Rattle.show.proofs.say_rows.Statement.{statement}
 use Rattle.show.proofs.say_rows.Tie as tie
 
 abbrev Inv-loop : tie.InvT-loop
-Inv-loop canvas w h from₀ left₀ t7 from left = Unit
+Inv-loop canvas w h now₀ from₀ left₀ t9 now from left = Unit
 
 abbrev μ-loop : tie.MeasureT-loop
-μ-loop canvas w h from₀ left₀ t7 from left = left
+μ-loop canvas w h now₀ from₀ left₀ t9 now from left = left
 
 loop-holds : tie.Need-loop-holds Inv-loop μ-loop
 loop-holds c = search needs

@@ -21,23 +21,11 @@ slice-aggregate-waypoints-to-path c =
 waypoints-to-path-requires : tie.Need-waypoints-to-path-requires
 waypoints-to-path-requires c κs = search needs
 
-enum-known-r : tie.Need-enum-known-r
-enum-known-r c = search needs
-
-enum-told : tie.Need-enum-told
-enum-told c = search needs
-
 same-length : tie.Need-same-length
 same-length c = search needs
 
 returns-2 : tie.Need-returns-2
 returns-2 c = search needs
-
-same-length-2 : tie.Need-same-length-2
-same-length-2 c = search needs
-
-returns-3 : tie.Need-returns-3
-returns-3 c = search needs
 
 pub walk-spec : {M : Type 1} → statement M
 walk-spec =
@@ -47,9 +35,5 @@ walk-spec =
     mul-end
     slice-aggregate-waypoints-to-path
     waypoints-to-path-requires
-    enum-known-r
-    enum-told
     same-length
-    returns-2
-    same-length-2
-    returns-3)
+    returns-2)

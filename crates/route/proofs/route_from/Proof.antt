@@ -1,4 +1,4 @@
--- `route::main` is safe: what is read fits the text, and what is printed the room. Assumes nothing.
+-- `route::route_from` is safe: what is read fits the text, and what is printed the room. Assumes nothing.
 use Rattle.router.proofs.Short.{within}
 use lib.Seq.{length-take-le}
 use lib.ListN.{length, length-replicate}
@@ -6,8 +6,8 @@ use native.Mathlib.Omega.{arith}
 use Prim.Native.Nat.{ℕ, _≤_}
 use mathlib.Core.Path.{sym}
 use borrow.Author.Needs.{needs}
-use Rattle.route.proofs.main.Statement.{statement}
-use Rattle.route.proofs.main.Tie as tie
+use Rattle.route.proofs.route_from.Statement.{statement}
+use Rattle.route.proofs.route_from.Tie as tie
 
 printed : (e : tie.After-route-text) → e .route-text .result ≤ length (e .route-text .last .1 .0)
 printed e = within _ _ _ _ (e .route-text .ensures) (omega (arith, length-replicate {A = ℕ} 82100 0))
@@ -42,14 +42,23 @@ slice-aggregate-fail c = search needs
 fail-requires : tie.Need-fail-requires
 fail-requires c κs = search needs
 
+slice-aggregate-tell-fault : tie.Need-slice-aggregate-tell-fault
+slice-aggregate-tell-fault c = search needs
+
+array-share-prefix-text-2 : tie.Need-array-share-prefix-text-2
+array-share-prefix-text-2 c = search needs
+
+slice-aggregate-tell-fault-2 : tie.Need-slice-aggregate-tell-fault-2
+slice-aggregate-tell-fault-2 c = search needs
+
+tell-fault-requires : tie.Need-tell-fault-requires
+tell-fault-requires c κs = search needs
+
 returns : tie.Need-returns
 returns c = search needs
 
-returns-2 : tie.Need-returns-2
-returns-2 c = search needs
-
-pub main-spec : {M : Type 1} → statement M
-main-spec =
+pub route-from-spec : {M : Type 1} → statement M
+route-from-spec =
     tie.close
     (tie.spec
     slice-aggregate-read-full
@@ -62,5 +71,8 @@ main-spec =
     write-all-requires
     slice-aggregate-fail
     fail-requires
-    returns
-    returns-2)
+    slice-aggregate-tell-fault
+    array-share-prefix-text-2
+    slice-aggregate-tell-fault-2
+    tell-fault-requires
+    returns)
