@@ -8,4 +8,5 @@ pub mod Faults
 pub mod Tables
 pub mod Lists
 pub mod Orders
+pub mod Mistakes
 pub mod Hosts
