@@ -54,7 +54,7 @@ pub extern "C" fn barnsling_pruned_mask(diagonal: u8, direction: u8, neighbours:
     masks::pruned_mask(flag(diagonal), direction, neighbours)
 }
 
-// The direction from a to b: below 8, or 2^32 * (refusal + 256 for the first point, 512 for the second). Refuses POINT, SAME.
+// The direction from a to b: below 8, or 2^32 * refusal, where POINT has 256 more for the first point and 512 more for the second. Refuses POINT, SAME.
 #[no_mangle]
 pub extern "C" fn barnsling_direction(ax: i32, ay: i32, bx: i32, by: i32) -> u64
     ensures { λ r. ⌜ r ≡ headingPacked (directionOf (pointOf ax ay) (pointOf bx by)) (pointOf ax ay) ⌝ }
