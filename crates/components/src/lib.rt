@@ -29,14 +29,14 @@ pub fn find_mut(parent: &mut [u16], rank: &[u8], n: usize, start: usize) -> usiz
     let mut up = parent[x] as usize;
     while up != x {
         let grand = parent[up];
-        parent[x] = grand;
+        stores::store_parent(parent, x, grand);
         x = up;
         up = grand as usize;
     }
     x
 }
 
-// The lower of two roots goes below the higher.
+// The lower of two roots goes below the higher. The caller's roots differ, so each store changes its entry: a root is its own parent, and a rank rises.
 fn link(parent: &mut [u16], rank: &mut [u8], a: usize, b: usize)
     requires { ⌜ (a < length (now parent)) × (b < length (now parent)) × (a < length (now rank)) × (b < length (now rank)) ⌝ }
     requires { ⌜ (a < 2 ^ 16) × (b < 2 ^ 16) × (getD (now rank) a 0 < 255) ⌝ }

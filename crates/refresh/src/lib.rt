@@ -40,7 +40,7 @@ fn touch(w: usize, h: usize, neighbours: &mut [u8], x: usize, y: usize, on: bool
     let i = cells::cell_to(w, h, x, y, d);
     if i < w * h {
         let m = neighbours[i];
-        neighbours[i] = with_bit(m, directions::back_of(d), on);
+        stores::store_byte(neighbours, i, with_bit(m, directions::back_of(d), on));
     }
 }
 
@@ -88,7 +88,7 @@ fn fix(
     let i = cells::cell_to(w, h, x, y, d);
     if i < w * h {
         let m = neighbours[i];
-        forced[i] = masks::forced_mask(m);
+        stores::store_byte(forced, i, masks::forced_mask(m));
     }
 }
 
@@ -109,7 +109,7 @@ fn fix_all(
 {
     let i = y * w + x;
     let m = neighbours[i];
-    forced[i] = masks::forced_mask(m);
+    stores::store_byte(forced, i, masks::forced_mask(m));
     for d in 0..8 {
         fix(w, h, diagonal, neighbours, forced, x, y, d);
     }
@@ -157,7 +157,7 @@ pub fn edit_cell(
     ensures { λ _. ⌜ now (forced .exit) ≡ forcedAfter w h diagonal (now (neighbours .entry)) (now (forced .entry)) x y (not b) ⌝ }
 {
     let i = y * w + x;
-    blocked[i] = blocked_byte(b);
+    stores::store_byte(blocked, i, blocked_byte(b));
     refresh(w, h, diagonal, neighbours, forced, x, y, !b);
 }
 

@@ -16,7 +16,7 @@ Inv-loop parent₀ rank n start x₀ up₀ parent x up = (x < n) × (up ≡ getD
 abbrev μ-loop : tie.MeasureT-loop
 μ-loop parent₀ rank n start x₀ up₀ parent x up = 255 - getD rank x 0
 
-Up-in : (c : tie.In-loop Inv-loop μ-loop) → c .before .loop .up < c .before .before .before .args .n
+Up-in : (c : tie.In-loop Inv-loop μ-loop) → c .before .loop .up < c .before .before .before .before .before .args .n
 Up-in c =
     let l = c .before .loop in
     Roots.up-in (l .inv .2) (l .x) (l .up) (l .inv .0) (l .inv .1) (c .loop-test .taken)
@@ -25,13 +25,13 @@ mul-up : tie.Need-mul-up Inv-loop μ-loop
 mul-up c = search needs
 
 slice-read-up : tie.Need-slice-read-up Inv-loop μ-loop
-slice-read-up c = omega (arith, c .before .pre .0 .in-p)
+slice-read-up c = let s = c .before .before .before in omega (arith, s .pre .0 .in-p, s .pre .1)
 
 cast-up : tie.Need-cast-up Inv-loop μ-loop
-cast-up c = omega (arith, c .slice-known .given (c .before .args .start))
+cast-up c = omega (arith, c .slice-known2 .given (c .before .before .before .args .start))
 
 loop-holds : tie.Need-loop-holds Inv-loop μ-loop
-loop-holds c = (omega arith, refl, c .before .pre .0, refl, refl, refl)
+loop-holds c = let s = c .before .before .before in (s .pre .1, refl, s .pre .0, refl, refl, refl)
 
 mul-grand : tie.Need-mul-grand Inv-loop μ-loop
 mul-grand c = omega (arith, Up-in c, c .before .loop .inv .2 .in-p)
@@ -39,27 +39,29 @@ mul-grand c = omega (arith, Up-in c, c .before .loop .inv .2 .in-p)
 slice-read-grand : tie.Need-slice-read-grand Inv-loop μ-loop
 slice-read-grand c = omega (arith, Up-in (c .before), c .before .before .loop .inv .2 .in-p)
 
-mul-parent : tie.Need-mul-parent Inv-loop μ-loop
-mul-parent c = omega (arith, c .before .before .loop .inv .2 .in-p)
-
-slice-write-parent : tie.Need-slice-write-parent Inv-loop μ-loop
-slice-write-parent c = omega (arith, c .before .before .loop .inv .2 .in-p)
+store-parent-requires : tie.Need-store-parent-requires Inv-loop μ-loop
+store-parent-requires c κs = let l = c .before .before .before .loop in omega (arith, l .inv .0, l .inv .2 .in-p)
 
 cast-up-2 : tie.Need-cast-up-2 Inv-loop μ-loop
-cast-up-2 c = omega (arith, c .slice-known2 .given (c .before .before .loop .up))
+cast-up-2 c =
+    let k = c .before .before .before .before in
+    omega (arith, k .slice-known3 .given (k .before .before .loop .up))
 
 loop-less : tie.Need-loop-less Inv-loop μ-loop
 loop-less c =
-    let l = c .before .before .loop in
-    Roots.up-falls (l .inv .2) (l .x) (l .up) (l .inv .0) (l .inv .1) (c .before .loop-test .taken)
+    let i = c .before .before .before .before .before in
+    let l = i .before .loop in
+    Roots.up-falls (l .inv .2) (l .x) (l .up) (l .inv .0) (l .inv .1) (i .loop-test .taken)
 
 loop-again : tie.Need-loop-again Inv-loop μ-loop
 loop-again c =
-    let l = c .before .before .loop in (
-      Up-in (c .before),
-      sym (getD-set-other (l .parent) (l .x) (l .up) (getD (l .parent) (l .up) 0) 0 (c .before .loop-test .taken)),
+    let i = c .before .before .before .before .before in
+    let l = i .before .loop in
+    rw (c .before .before .store-parent .ensures) (
+      Up-in i,
+      sym (getD-set-other (l .parent) (l .x) (l .up) (getD (l .parent) (l .up) 0) 0 (i .loop-test .taken)),
       Roots.up-legal (l .inv .2) (omega arith) (l .x) (l .up) (l .inv .0) (l .inv .1),
-      Roots.up-root (l .inv .2) (omega arith) (l .x) (l .up) (l .inv .0) (l .inv .1) (Up-in (c .before)) ∙ l .inv .3,
+      Roots.up-root (l .inv .2) (omega arith) (l .x) (l .up) (l .inv .0) (l .inv .1) (Up-in i) ∙ l .inv .3,
       Roots.up-halve (l .inv .2) (omega arith) (l .x) (l .up) (l .inv .0) (l .inv .1) ∙ l .inv .4,
       length-set (l .parent) (l .x) (getD (l .parent) (l .up) 0) ∙ l .inv .5,
     )
@@ -85,8 +87,7 @@ find-mut-spec =
     loop-holds
     mul-grand
     slice-read-grand
-    mul-parent
-    slice-write-parent
+    store-parent-requires
     cast-up-2
     loop-less
     loop-again

@@ -14,8 +14,8 @@ add-i c = let s = c .before .before .before in omega (arith, inside (s .pre .0),
 blocked-byte-requires : tie.Need-blocked-byte-requires
 blocked-byte-requires c κs = search needs
 
-slice-write-blocked : tie.Need-slice-write-blocked
-slice-write-blocked c = let s = c .before .before .before .before in omega (arith, inside (s .pre .0), s .pre .1 .0)
+store-byte-requires : tie.Need-store-byte-requires
+store-byte-requires c κs = let s = c .before .before .before .before .before in omega (arith, inside (s .pre .0), s .pre .1 .0)
 
 refresh-requires : tie.Need-refresh-requires
 refresh-requires c κs = search needs
@@ -30,7 +30,10 @@ same-length-3 : tie.Need-same-length-3
 same-length-3 c = search needs
 
 returns : tie.Need-returns
-returns c = (rw (c .before .before .before .before .before .before .before .blocked-byte .ensures), c .before .before .before .before .refresh .ensures)
+returns c =
+    let f = c .before .before .before .before in
+    let b = f .before .before .before .before .before in
+    (rw (b .before .blocked-byte .ensures) at (b .store-byte .ensures), f .refresh .ensures)
 
 pub edit-cell-spec : {M : Type 1} → statement M
 edit-cell-spec =
@@ -39,7 +42,7 @@ edit-cell-spec =
     mul-i
     add-i
     blocked-byte-requires
-    slice-write-blocked
+    store-byte-requires
     refresh-requires
     same-length
     same-length-2

@@ -24,15 +24,18 @@ shared-slice-read-m c = search needs
 forced-mask-requires : tie.Need-forced-mask-requires
 forced-mask-requires c κs = search needs
 
-slice-write-forced : tie.Need-slice-write-forced
-slice-write-forced c = search needs
+store-byte-requires : tie.Need-store-byte-requires
+store-byte-requires c κs = search needs
 
 same-length : tie.Need-same-length
 same-length c = search needs
 
 returns-2 : tie.Need-returns-2
 returns-2 c =
-    fixed-in _ _ _ _ _ _ _ _ _ _ (sym (c .before .before .before .before .before .allowed .ensures) ∙ not-false _ (c .before .before .before .before .if1 .left)) (c .before .before .before .cell-to .ensures) (c .before .before .if2 .taken) (c .forced-mask .ensures)
+    let m = c .before .before .before in
+    let t = m .before .before .before in
+    c .before .before .store-byte .ensures
+    ∙ fixed-in _ _ _ _ _ _ _ _ _ _ (sym (t .before .before .before .allowed .ensures) ∙ not-false _ (t .before .before .if1 .left)) (t .before .cell-to .ensures) (t .if2 .taken) (m .forced-mask .ensures)
 
 returns-3 : tie.Need-returns-3
 returns-3 c = fixed-out _ _ _ _ _ _ _ _ _ (sym (c .before .before .before .allowed .ensures) ∙ not-false _ (c .before .before .if1 .left)) (c .before .cell-to .ensures) (c .if2 .left)
@@ -47,7 +50,7 @@ fix-spec =
     mul-if2
     shared-slice-read-m
     forced-mask-requires
-    slice-write-forced
+    store-byte-requires
     same-length
     returns-2
     returns-3)

@@ -29,18 +29,19 @@ shared-slice-read-m c = let s = c .before .before .before in omega (arith, insid
 forced-mask-requires : tie.Need-forced-mask-requires Inv-loop μ-loop
 forced-mask-requires c κs = search needs
 
-slice-write-forced : tie.Need-slice-write-forced Inv-loop μ-loop
-slice-write-forced c = let s = c .before .before .before .before in omega (arith, inside (s .pre .0), s .pre .1 .0, s .pre .1 .1)
+store-byte-requires : tie.Need-store-byte-requires Inv-loop μ-loop
+store-byte-requires c κs = let s = c .before .before .before .before .before in omega (arith, inside (s .pre .0), s .pre .1 .0, s .pre .1 .1)
 
 loop-holds : tie.Need-loop-holds Inv-loop μ-loop
 loop-holds c = (search needs, refl)
 
 fix-requires : tie.Need-fix-requires Inv-loop μ-loop
 fix-requires c κs =
-    let s = c .before .before .before .before .before .before .before in
+    let b = c .before .before .before .before .before in
+    let s = b .before .before .before .before .before .before in
     let l = c .before .before .loop in
     let e = ap length (l .inv .1) ∙ length-fixedTo (s .args .w) (s .args .h) (s .args .x) (s .args .y) (s .args .diagonal) (s .args .neighbours .now) _ (l .d) in
-    (s .pre .0, (omega arith, (s .pre .1 .0, omega (arith, simp length-set at e, s .pre .1 .1))))
+    (s .pre .0, (omega arith, (s .pre .1 .0, omega (arith, simp (b .store-byte .ensures, length-set) at e, s .pre .1 .1))))
 
 add-d : tie.Need-add-d Inv-loop μ-loop
 add-d c = omega arith
@@ -52,14 +53,20 @@ loop-again : tie.Need-loop-again Inv-loop μ-loop
 loop-again c = (omega arith, fixed-turn _ _ _ _ _ _ _ _ _ _ (c .before .before .before .before .before .loop .inv .1) (c .before .before .fix .ensures))
 
 same-length : tie.Need-same-length Inv-loop μ-loop
-same-length c = ap length (c .before .loop .inv .1) ∙ (let s = c .before .before .before .before .before .before in length-fixedTo (s .args .w) (s .args .h) (s .args .x) (s .args .y) (s .args .diagonal) (s .args .neighbours .now) _ (c .before .loop .d)) ∙ simp length-set
+same-length c =
+    let b = c .before .before .before .before in
+    let s = b .before .before .before .before .before .before in
+    ap length (c .before .loop .inv .1)
+    ∙ length-fixedTo (s .args .w) (s .args .h) (s .args .x) (s .args .y) (s .args .diagonal) (s .args .neighbours .now) _ (c .before .loop .d)
+    ∙ simp (b .store-byte .ensures, length-set)
 
 returns : tie.Need-returns Inv-loop μ-loop
 unfolding fixedAll
 returns c =
-    let s = c .before .before .before .before .before .before in
+    let b = c .before .before .before .before in
+    let s = b .before .before .before .before .before .before in
     let e = ended (fixedTo (s .args .w) (s .args .h) (s .args .diagonal) (s .args .neighbours .now) _ (s .args .x) (s .args .y)) 8 (c .before .loop .d) _ (c .before .loop .inv .0) (c .loop-test .left) (c .before .loop .inv .1) in
-    rw (c .before .before .forced-mask .ensures) at e
+    rw (b .store-byte .ensures, b .before .forced-mask .ensures) at e
 
 pub fix-all-spec : {M : Type 1} → statement M
 fix-all-spec =
@@ -71,7 +78,7 @@ fix-all-spec =
     add-i
     shared-slice-read-m
     forced-mask-requires
-    slice-write-forced
+    store-byte-requires
     loop-holds
     fix-requires
     add-d

@@ -23,18 +23,21 @@ back-of-requires c κs = search needs
 with-bit-requires : tie.Need-with-bit-requires
 with-bit-requires c κs = c .back-of .ensures .1
 
-slice-write-neighbours : tie.Need-slice-write-neighbours
-slice-write-neighbours c = search needs
+store-byte-requires : tie.Need-store-byte-requires
+store-byte-requires c κs = search needs
 
 same-length : tie.Need-same-length
 same-length c = search needs
 
 returns : tie.Need-returns
 returns c =
-    let s = c .before .before .before .before .before .before in
-    let i = c .before .before .before .before .cell-to in
-    touched-in _ _ _ _ _ (s .args .neighbours .now) _ _ _ (i .ensures) (c .before .before .before .if1 .taken)
-    (c .with-bit .ensures ∙ ap (λ (k : ℕ). withBit (getD (s .args .neighbours .now) (i .result) 0) k (s .args .on)) (c .before .back-of .ensures .0))
+    let b = c .before .before .before in
+    let t = b .before .before .before .before in
+    let s = t .before .before .before in
+    let i = t .before .cell-to in
+    c .before .before .store-byte .ensures
+    ∙ touched-in _ _ _ _ _ (s .args .neighbours .now) _ _ _ (i .ensures) (t .if1 .taken)
+    (b .with-bit .ensures ∙ ap (λ (k : ℕ). withBit (getD (s .args .neighbours .now) (i .result) 0) k (s .args .on)) (b .before .back-of .ensures .0))
 
 returns-2 : tie.Need-returns-2
 returns-2 c = touched-out _ _ _ _ _ _ _ _ (c .before .cell-to .ensures) (c .if1 .left)
@@ -48,7 +51,7 @@ touch-spec =
     slice-read-m
     back-of-requires
     with-bit-requires
-    slice-write-neighbours
+    store-byte-requires
     same-length
     returns
     returns-2)
