@@ -28,10 +28,10 @@ pub fn find_mut(parent: &mut [u16], rank: &[u8], n: usize, start: usize) -> usiz
     let mut x = start;
     let mut up = parent[x] as usize;
     while up != x {
-        let grand = parent[up];
-        stores::store_parent(parent, x, grand);
+        let grand = parent[up] as usize;
+        stores::store_parent(parent, x, up, grand);
         x = up;
-        up = grand as usize;
+        up = grand;
     }
     x
 }

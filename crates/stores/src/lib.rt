@@ -1,7 +1,7 @@
 // One entry of a lent table, stored only where its value differs: a host may copy every byte that is stored to.
 ghost use mathlib.Core.Path.{_≡_};
-ghost use Prim.Native.Nat.{_<_};
-ghost use lib.ListN.{length, set};
+ghost use Prim.Native.Nat.{_^_, _<_};
+ghost use lib.ListN.{length, getD, set};
 
 // Entry i of a table of bytes becomes v.
 pub fn store_byte(table: &mut [u8], i: usize, v: u8)
@@ -13,12 +13,12 @@ pub fn store_byte(table: &mut [u8], i: usize, v: u8)
     }
 }
 
-// The parent of cell i becomes v: its two bytes are stored together, or neither is.
-pub fn store_parent(parent: &mut [u16], i: usize, v: u16)
-    requires { ⌜ i < length (now parent) ⌝ }
+// The parent of cell i, which is old, becomes v: its two bytes are stored together, or neither is. A walk has old in hand, so it is not read again.
+pub fn store_parent(parent: &mut [u16], i: usize, old: usize, v: usize)
+    requires { ⌜ (i < length (now parent)) × (getD (now parent) i 0 ≡ old) × (v < 2 ^ 16) ⌝ }
     ensures { λ _. ⌜ now (parent .exit) ≡ set (now (parent .entry)) i v ⌝ }
 {
-    if parent[i] != v {
-        parent[i] = v;
+    if old != v {
+        parent[i] = v as u16;
     }
 }

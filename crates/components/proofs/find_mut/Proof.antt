@@ -39,13 +39,13 @@ mul-grand c = omega (arith, Up-in c, c .before .loop .inv .2 .in-p)
 slice-read-grand : tie.Need-slice-read-grand Inv-loop μ-loop
 slice-read-grand c = omega (arith, Up-in (c .before), c .before .before .loop .inv .2 .in-p)
 
-store-parent-requires : tie.Need-store-parent-requires Inv-loop μ-loop
-store-parent-requires c κs = let l = c .before .before .before .loop in omega (arith, l .inv .0, l .inv .2 .in-p)
+cast-grand : tie.Need-cast-grand Inv-loop μ-loop
+cast-grand c = omega (arith, c .slice-known3 .given (c .before .before .loop .up))
 
-cast-up-2 : tie.Need-cast-up-2 Inv-loop μ-loop
-cast-up-2 c =
-    let k = c .before .before .before .before in
-    omega (arith, k .slice-known3 .given (k .before .before .loop .up))
+store-parent-requires : tie.Need-store-parent-requires Inv-loop μ-loop
+store-parent-requires c κs =
+    let l = c .before .before .before .loop in
+    (omega (arith, l .inv .0, l .inv .2 .in-p), sym (l .inv .1), omega (arith, c .before .slice-known3 .given (l .up)))
 
 loop-less : tie.Need-loop-less Inv-loop μ-loop
 loop-less c =
@@ -87,8 +87,8 @@ find-mut-spec =
     loop-holds
     mul-grand
     slice-read-grand
+    cast-grand
     store-parent-requires
-    cast-up-2
     loop-less
     loop-again
     same-length
