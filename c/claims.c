@@ -2,12 +2,16 @@
  * What barnsling.h claims beside the answers, tried on the archive: c/run builds and runs it.
  *
  * Empty slices may be null; a refusal writes nothing; which of two points is told for POINT alone; a controller that repeats its
- * orders does no harm through barnsling_grid_gate; and no call takes more stack than the header says.
+ * orders does no harm through barnsling_grid_gate; an edit that changes nothing stores nothing; and no call takes more stack than the
+ * header says.
  */
 #define _XOPEN_SOURCE 600
 #include "barnsling.h"
+#include <setjmp.h>
+#include <signal.h>
 #include <stdio.h>
 #include <string.h>
+#include <sys/mman.h>
 #include <ucontext.h>
 
 static struct barnsling_grid grid;
@@ -90,6 +94,51 @@ static void repeated_orders(void)
     claim("and opens", barnsling_grid_blocked_at(&hall, 1, 0) == 0 && barnsling_grid_reachable(&hall, 0, 0, 2, 0) == 1);
 }
 
+/* ---- Stores --------------------------------------------------------------------------------------------------- */
+
+enum { PAGE = 4096, PAGES = sizeof(struct barnsling_grid) / PAGE + 1 };
+static unsigned char pages[(PAGES + 1) * PAGE];
+static sigjmp_buf at_store;
+
+static void on_store(int number)
+{
+    (void)number;
+    siglongjmp(at_store, 1);
+}
+
+/* Each cell is told to be what it is. */
+static void told_again(struct barnsling_grid *g)
+{
+    int i;
+    for (i = 0; i < 99; i++)
+        barnsling_set(
+            g->blocked, BARNSLING_CELLS, g->neighbours, BARNSLING_CELLS, g->forced, BARNSLING_CELLS,
+            g->parent, BARNSLING_CELLS, g->rank, BARNSLING_CELLS, 11, 9, 1, 0, i % 11, i / 11, g->blocked[i]);
+}
+
+/* The first two times the parents are halved; from then on nothing is left to change, and the pages may be read-only. */
+static void stores(void)
+{
+    struct barnsling_grid *g = (struct barnsling_grid *)(pages + (PAGE - (uintptr_t)pages % PAGE) % PAGE);
+    volatile int silent = 0;
+    int i;
+    barnsling_grid_new(g, 11, 9);
+    for (i = 0; i < 99; i++)
+        barnsling_grid_set(g, i % 11, i / 11, i * 7 % 4 == 0);
+    barnsling_grid_rebuild(g);
+    told_again(g);
+    told_again(g);
+    signal(SIGSEGV, on_store);
+    mprotect(g, PAGES * PAGE, PROT_READ);
+    if (sigsetjmp(at_store, 1) == 0) {
+        told_again(g);
+        silent = 1;
+    }
+    mprotect(g, PAGES * PAGE, PROT_READ | PROT_WRITE);
+    signal(SIGSEGV, SIG_DFL);
+    claim("an edit that changes nothing stores nothing", silent);
+}
+
 /* ---- Stack ---------------------------------------------------------------------------------------------------- */
 
 static unsigned char stack[1 << 20];
@@ -168,6 +217,7 @@ int main(void)
     null_lists();
     refusals();
     repeated_orders();
+    stores();
     stacks();
     printf("c/claims: %d of the header's claims tried, %d broken\n", claims, broken);
     return broken != 0;

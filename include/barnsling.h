@@ -26,7 +26,7 @@
  * table that is too short or holds nonsense is refused by name.
  *
  * COST. A call that is lent tables tests every cell of them first, 1 to 3 microseconds at 64 by 64 on the machine of
- * docs/PERFORMANCE.md. A question or an edit takes little more; a rebuild takes some 20 to 60, a search 4 to 75.
+ * docs/PERFORMANCE.md. A question or an edit takes little more; a rebuild takes some 20 to 70, a search 4 to 75.
  *
  * STACK. A search takes about 5 kB and up to 1.3 kB more for each level of its depth limit: by its frames at most 90 kB (63 kB was the
  * most seen). barnsling_route_text keeps a grid and working room there too, some 340 kB: give it 512 kB. The pruned masks take 2.3 kB,
@@ -152,7 +152,8 @@ uint64_t barnsling_new(
 
 /* Blocks (a flag) or frees the cell (x, y). Answers the dirty mark afterwards, 0 or 1. Refuses STATE, then POINT.
    A free cell that becomes blocked sets the mark; every other edit leaves it as it was passed, and joins the cell with its free
-   neighbours, also one that blocks a blocked cell again: see GATES THAT REPEAT THEMSELVES. */
+   neighbours, also one that blocks a blocked cell again: see GATES THAT REPEAT THEMSELVES.
+   Stores to an entry of a table only where its value changes, and then to all of it; a new grid and a rebuild fill theirs. */
 uint64_t barnsling_set(
     uint8_t *blocked, size_t blocked_len, uint8_t *neighbours, size_t neighbours_len, uint8_t *forced, size_t forced_len,
     uint16_t *parent, size_t parent_len, uint8_t *rank, size_t rank_len, size_t width, size_t height,

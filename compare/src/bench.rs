@@ -261,7 +261,7 @@ pub fn once(kind: usize, diagonal: bool, who: usize) {
     println!("{waypoints} waypoints");
 }
 
-/// New, edit, rebuild, question, and the STATE test's share of a rebuild.
+/// New, edit, gate, rebuild, question, and the STATE test's share of a rebuild.
 fn tables(side: i32, diagonal: bool) {
     let mut r = Rng(7);
     let walls = walls(0, side, &mut r);
@@ -273,6 +273,7 @@ fn tables(side: i32, diagonal: bool) {
     let show = |what: &str, t: &Times| row(&named(&format!("{side} {what}"), diagonal), t);
     show("new", &new(side, diagonal));
     show("edit", &edit(side, diagonal, &edits));
+    show("gate", &edit(side, diagonal, &gates(side, &mut r)));
     let question = question(&rust, &ours, &edits);
     show("question", &question);
     let rebuild = rebuild(rust, ours, diagonal);
@@ -309,6 +310,18 @@ fn new(side: i32, diagonal: bool) -> Times {
         tested: t[1],
         inner: None,
     }
+}
+/// Orders to gates anywhere, each of which changes its cell; all of them together leave the grid as it was.
+fn gates(side: i32, r: &mut Rng) -> Vec<(Point, bool)> {
+    let cells: Vec<Point> = (0..CALLS / 2).map(|_| anywhere(side, r)).collect();
+    let mut shut = vec![false; (side * side) as usize];
+    let mut orders = vec![];
+    for p in cells.iter().chain(&cells) {
+        let gate = &mut shut[(p.y * side + p.x) as usize];
+        *gate = !*gate;
+        orders.push((*p, *gate));
+    }
+    orders
 }
 /// The same edits of a new grid in both. A call of more rounds less a call of one: the first round and the new grid are not counted.
 fn edit(side: i32, diagonal: bool, edits: &[(Point, bool)]) -> Times {

@@ -171,6 +171,9 @@ impl Grid {
     /// only [`rebuild`](Grid::rebuild) does. This is the rule of the library that Barnsling follows. A controller that may
     /// repeat its orders uses [`gate`](Grid::gate), which asks first.
     ///
+    /// For a controller that copies what is stored to: an entry of a table is stored only where its value changes, and then
+    /// whole. A new grid and a rebuild fill theirs.
+    ///
     /// ```
     /// use barnsling::{Grid, Point, Refusal};
     /// let (west, middle, east) = (Point::new(0, 0), Point::new(1, 0), Point::new(2, 0));

@@ -30,7 +30,7 @@ pub fn new(t: CellsMut<'_>) -> Result<(), Refusal> {
 ///
 /// A free cell that becomes blocked sets the mark; every other edit leaves it as it was passed, and joins the cell with its
 /// free neighbours: see [`Grid::set`](crate::Grid::set) for what that means where a blocked cell is blocked again, and ask
-/// [`blocked_at`] first.
+/// [`blocked_at`] first. An entry of a table is stored only where its value changes, and then whole.
 ///
 /// ```
 /// use barnsling::{lent, Point, Refusal, Tables};
