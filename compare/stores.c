@@ -43,8 +43,8 @@ static struct grid grid;
 static unsigned char *lent;                /* the tables, in the pages that are watched */
 static unsigned char *plain;               /* a copy of them, for the same edit unwatched */
 static unsigned char kept[MOST];           /* the tables before the edit */
-static unsigned long halves, past;         /* parents stored by half, and entries past the cells */
-static unsigned long unlike, unseen;       /* edits that are not as they are unwatched, and those with a change that no store was seen for */
+static unsigned long halves, past;         /* parents stored by half, entries stored past the cells */
+static unsigned long unlike, unseen;       /* edits that come out otherwise than unwatched, that changed more than was seen */
 static uint64_t state;
 
 static unsigned below(unsigned n)
@@ -383,7 +383,8 @@ int main(int argc, char **argv)
         for (grid.diagonal = 1; grid.diagonal >= 0; grid.diagonal--)
             count(origin, want, &sum);
     }
-    printf("\nstores: %lu entries in %lu edits, %lu in vain, %lu parents by half, %lu past the cells\n", sum.all, sum.edits, sum.vain, halves, past);
+    printf("\nstores: %lu entries in %lu edits, %lu in vain, %lu parents by half, %lu past the cells\n",
+        sum.all, sum.edits, sum.vain, halves, past);
     if (unlike + unseen != 0)
         printf("the watch itself is at fault: %lu edits came out otherwise than unwatched, in %lu a store was missed\n", unlike, unseen);
     return sum.vain + halves + past + unlike + unseen != 0;
