@@ -116,7 +116,7 @@ static void told_again(struct barnsling_grid *g)
             g->parent, BARNSLING_CELLS, g->rank, BARNSLING_CELLS, 11, 9, 1, 0, i % 11, i / 11, g->blocked[i]);
 }
 
-/* The first two times the parents are halved; from then on nothing is left to change, and the pages may be read-only. */
+/* The first two times cells are joined and parents halved. Then nothing is left to change, and the pages may be read-only. */
 static void stores(void)
 {
     struct barnsling_grid *g = (struct barnsling_grid *)(pages + (PAGE - (uintptr_t)pages % PAGE) % PAGE);

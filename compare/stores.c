@@ -337,12 +337,12 @@ static unsigned long fewest(const struct tally *tallies)
 
 static void tell(const struct tally *t, int kind)
 {
-    double edits = (double)t->edits;
+    double n = (double)t->edits;
     int table;
     printf("%-9s %-13s %6lu", grid.diagonal ? "diagonals" : "straight", kind_names[kind], t->edits);
     for (table = 0; table < TABLES; table++)
-        printf(" %10.2f", (double)t->stored[table] / edits);
-    printf(" %7.2f %7.2f %9lu\n", (double)t->all / edits, (double)t->differ / edits, t->vain);
+        printf(" %10.2f", (double)t->stored[table] / n);
+    printf(" %7.2f %7.2f %9lu\n", (double)t->all / n, (double)t->differ / n, t->vain);
 }
 
 /* Edits of each kind, as many as are wanted, told and added to the sum. */

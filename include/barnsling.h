@@ -25,7 +25,7 @@
  * and what a call writes must not overlap anything else lent to that call. This is all that you owe: every call tests the rest, and a
  * table that is too short or holds nonsense is refused by name.
  *
- * COST. A call that is lent tables tests every cell of them first, 1 to 3 microseconds at 64 by 64 on the machine of
+ * COST. A call that is lent tables tests every cell of them first, 1 to 4 microseconds at 64 by 64 on the machines of
  * docs/PERFORMANCE.md. A question or an edit takes little more; a rebuild takes some 20 to 70, a search 4 to 75.
  *
  * STACK. A search takes about 5 kB and up to 1.3 kB more for each level of its depth limit: by its frames at most 90 kB (63 kB was the
