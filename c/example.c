@@ -103,23 +103,29 @@ static void nearest_table(void)
     }
 }
 
-/* Every cell of the way, for the cart's own controller, and whether they are clear. */
+/* Whether the way along the waypoints is clear: every cell of it, between them too. */
+static const char *clear(size_t numbers)
+{
+    return barnsling_grid_check_route(&grid, rooms.out, numbers).value ? "clear" : "not clear";
+}
+
+/* Every cell of the way, for the cart's own controller, and whether it is clear, which the waypoints themselves are asked. */
 static void walk(const struct barnsling_route *r)
 {
     static int32_t path[BARNSLING_PATH];
     size_t numbers = 2 * (size_t)r->waypoints;
     struct barnsling_reply p = barnsling_waypoints_to_path(rooms.out, numbers, path, BARNSLING_PATH);
-    struct barnsling_reply clear;
     if (p.refusal != 0)
         return;
-    clear = barnsling_grid_check_route(&grid, path, 2 * (size_t)p.value);
-    printf("The path has %d cells and is %s.\n", (int)p.value, clear.value ? "clear" : "not clear");
+    printf("The path has %d cells, and the way is %s.\n", (int)p.value, clear(numbers));
     draw(path, (size_t)p.value);
 
     barnsling_grid_gate(&grid, GATE_X, GATE_Y, 1);
-    clear = barnsling_grid_check_route(&grid, path, 2 * (size_t)p.value);
-    printf("The gate shuts while the cart is under way: the path is %s.\n", clear.value ? "clear" : "not clear");
+    printf("The gate shuts while the cart is under way: the way is %s.\n", clear(numbers));
     barnsling_grid_gate(&grid, GATE_X, GATE_Y, 0);
+    barnsling_grid_gate(&grid, GATE_X - 1, GATE_Y, 1);
+    printf("A bench stands at (%d,%d), between two waypoints: the way is %s.\n", GATE_X - 1, GATE_Y, clear(numbers));
+    barnsling_grid_gate(&grid, GATE_X - 1, GATE_Y, 0);
 
     p = barnsling_waypoints_to_path(rooms.out, numbers, path, 4);
     printf("The path in room for 2 points: refused, %s (%d)\n", barnsling_refusal_name((int)p.refusal), (int)p.refusal);

@@ -47,9 +47,9 @@
 extern "C" {
 #endif
 
-/* The number of this interface. It rises where a declaration, an answer's form or a refusal's number changes: a program that was
-   built with another number than the archive's must be built anew. */
-#define BARNSLING_VERSION 2
+/* The number of this interface. It rises where a declaration, what an answer says or its form, or a refusal's number changes: a
+   program that was built with another number than the archive's must be built anew. */
+#define BARNSLING_VERSION 3
 
 /* The archive's number. Ask it once, and go on only if it is BARNSLING_VERSION. */
 uint32_t barnsling_version(void);
@@ -277,8 +277,10 @@ struct barnsling_reply {
    Refuses LIST, POINT, ROOM. The grid is not looked at. */
 struct barnsling_reply barnsling_waypoints_to_path(const int32_t *list, size_t list_len, int32_t *out, size_t out_len);
 
-/* Whether every point of a list after the first is inside and free now. value: 1 clear, 0 not. Refuses STATE, LIST, POINT.
-   It looks at the points of the list and at nothing between them: for every cell on the way, check the path. */
+/* Whether the way along a waypoint list is clear now: every cell of its path (barnsling_waypoints_to_path) after the first point is
+   inside and free. value: 1 clear, 0 not. Refuses STATE, LIST, POINT.
+   It needs no room, and stops at the first cell that is not free. The first point may be blocked or outside; it is looked at only if
+   the way comes back to it. Checking the path that was written says the same as checking the list (proved). */
 struct barnsling_reply barnsling_check_route(
     const uint8_t *blocked, size_t blocked_len, const uint16_t *parent, size_t parent_len,
     const uint8_t *rank, size_t rank_len, size_t width, size_t height, const int32_t *list, size_t list_len);
@@ -509,7 +511,7 @@ static inline uint64_t barnsling_grid_pruned_at(const struct barnsling_grid *g, 
         g->settings.diagonal, x, y, direction);
 }
 
-/* Whether the points of a list are clear now. Refuses LIST, POINT. */
+/* Whether the way along a waypoint list is clear now. Refuses LIST, POINT. */
 static inline struct barnsling_reply barnsling_grid_check_route(
     const struct barnsling_grid *g, const int32_t *list, size_t list_len)
 {

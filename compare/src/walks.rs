@@ -1,4 +1,4 @@
-//! Paths, route checks, map texts and what the tables hold of a cell. The path is the Rust's; the check, the text's form and the refusals are document 01's.
+//! Paths, route checks, map texts and what the tables hold of a cell. The path is the Rust's; what is clear is document 02's, the text's form and the refusals are document 01's.
 use crate::lent::{at, fewer, Lent, POINT, STATE};
 use crate::Tally;
 use barnsling::lent::TEXT_ROOM;
@@ -6,8 +6,10 @@ use barnsling::raw::{self, Reply};
 use grid_pathfinding::waypoints_to_path;
 use grid_util::point::Point;
 use tools::ground::pruned;
-use tools::judge::{list_refused, Tables};
-use tools::make::{any_numbers, any_tables, damage, gen_map, illegal_tables, points_of, text_case};
+use tools::judge::{clear, list_refused, Tables};
+use tools::make::{
+    any_numbers, any_tables, check_numbers, damage, gen_map, illegal_tables, points_of, text_case,
+};
 use tools::{maps, stats, Rng};
 
 const UNTOUCHED: i32 = -70_007;
@@ -69,7 +71,8 @@ fn some_tables(r: &mut Rng, tables_read: &[usize]) -> (Tables, Lent, bool) {
         ours.lengthen(r);
         return (tables, ours, false);
     }
-    let tables = any_tables(r.range(1, 12), r);
+    let side = if r.pct(1) { 64 } else { r.range(1, 12) };
+    let tables = any_tables(side, r);
     let mut ours = Lent::of_tables(&tables);
     ours.lengthen(r);
     let k = r.below(50) as usize;
@@ -79,29 +82,29 @@ fn some_tables(r: &mut Rng, tables_read: &[usize]) -> (Tables, Lent, bool) {
     (tables, ours, !tables_read.contains(&k))
 }
 
+/// The reply, by the judge's two walks; and that no table is written.
 pub fn checks(t: &mut Tally, r: &mut Rng) {
     while t.more() {
         let (tables, ours, legal) = some_tables(r, &[0, 3, 4]);
         let (w, h) = (tables.w as i32, tables.h as i32);
+        let blocked: Vec<bool> = tables.blocked.iter().map(|b| *b != 0).collect();
         for _ in 0..4 {
-            let v = any_numbers(6, w.max(1), h.max(1), r);
-            let free = |p: &Point| {
-                p.x >= 0
-                    && p.y >= 0
-                    && p.x < w
-                    && p.y < h
-                    && tables.blocked[(p.y * w + p.x) as usize] == 0
+            let v = if legal {
+                check_numbers(w, h, &blocked, r)
+            } else {
+                any_numbers(6, w.max(1), h.max(1), r)
             };
             let no = if legal {
                 list_refused(&v).unwrap_or(ACCEPTED)
             } else {
                 (2, Point::new(0, 0))
             };
-            let clear = no.0 == 0 && points_of(&v)[1..].iter().all(free);
+            let clear = no.0 == 0 && clear(w, h, &blocked, &points_of(&v));
             let got = raw::check_route(ours.cells(), &v);
             t.hold(reply(no, clear as u64), got, || {
                 format!("check {v:?} on {tables:?}")
             });
+            *t.results.entry(no.0).or_default() += 1;
             t.step();
         }
         t.hold(&tables, &ours.tables(), || format!("written {tables:?}"));

@@ -26,7 +26,7 @@
 //! let mut rooms = Rooms::new();
 //! let route = floor.single_goal(&mut rooms, west, east)?;
 //! assert_eq!(route.waypoints.last(), Some(&east));
-//! assert!(floor.check_route(&route.path()?)?);
+//! assert!(floor.check_route(&route.waypoints)?);
 //!
 //! // The gate shuts. The yes is hopeful now; the search finds out.
 //! floor.gate(door, true)?;

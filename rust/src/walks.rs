@@ -77,19 +77,21 @@ impl Route {
 
 /// Routes checked, and the masks of a cell; bit d of a mask stands for direction d.
 impl Grid {
-    /// Whether every point of a list after the first is inside the grid and free now. Refuses STATE, LIST, POINT.
+    /// Whether the way along a waypoint list is clear now: every cell of its path ([`waypoints_to_path`]) after the first point is
+    /// inside the grid and free. Refuses STATE, LIST, POINT.
     ///
-    /// It looks at the points of the list and at nothing between them: for every cell on the way, check [`Route::path`].
+    /// It needs no room, and stops at the first cell that is not free. The first point may be blocked or outside; it is looked at only
+    /// if the way comes back to it. Checking [`Route::path`] says the same as checking [`Route::waypoints`].
     ///
     /// ```
     /// use barnsling::{Grid, Point, Rooms};
     /// let mut floor = Grid::new(9, 1)?;
     /// floor.rebuild()?;
     /// let route = floor.multiple_goals(&mut Rooms::new(), Point::new(0, 0), &[Point::new(8, 0)])?;
-    /// let path = route.path()?;
-    /// assert_eq!(floor.check_route(&path), Ok(true));
+    /// assert_eq!(floor.check_route(&route.waypoints), Ok(true));
     /// floor.set(Point::new(4, 0), true)?;
-    /// assert_eq!(floor.check_route(&path), Ok(false));
+    /// assert_eq!(floor.check_route(&route.waypoints), Ok(false));
+    /// assert_eq!(floor.check_route(&[Point::new(0, 0), Point::new(8, 0)]), Ok(false));
     /// # Ok::<(), barnsling::Refusal>(())
     /// ```
     pub fn check_route(&self, list: &[Point]) -> Result<bool, Refusal> {

@@ -30,12 +30,12 @@ use replies::routed;
 pub mod texts;
 pub mod walks;
 
-// The number of this interface, which the header and the Rust crate name too: it rises where a declaration, an answer's form or a refusal's number changes.
+// The number of this interface, which the header and the Rust crate name too: it rises where a declaration, what an answer says or its form, or a refusal's number changes.
 #[no_mangle]
 pub extern "C" fn barnsling_version() -> u32
-    ensures { λ r. ⌜ r ≡ 2 ⌝ }
+    ensures { λ r. ⌜ r ≡ 3 ⌝ }
 {
-    2
+    3
 }
 
 // The forced mask of a neighbour mask.

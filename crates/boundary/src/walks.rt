@@ -1,4 +1,4 @@
-// Lists of waypoints for C and Rust: walked into a path, and checked against lent tables.
+// Lists of waypoints for C and Rust: walked into a path, and the walk checked against lent tables.
 ghost use mathlib.Core.Path.{_≡_};
 ghost use lib.ListN.{length};
 ghost use Rattle.paths.specs.Walks.{pathAnswer, pathKept};
@@ -19,7 +19,7 @@ pub extern "C" fn barnsling_waypoints_to_path(list: &[i32], out: &mut [i32]) -> 
     written(paths::waypoints_to_path(list, out))
 }
 
-// Whether every waypoint after the first is inside and free: 1 or 0. Refuses STATE, LIST, POINT.
+// Whether every cell of the expanded walk after the first point is inside and free: 1 or 0. Refuses STATE, LIST, POINT.
 #[no_mangle]
 pub extern "C" fn barnsling_check_route(
     blocked: &[u8],

@@ -1,11 +1,12 @@
--- The route check: clear exactly if every waypoint after the first is inside and free. A list of points is a list of numbers, x and y in turn.
+-- The route check: clear exactly if every cell of the expanded walk after the first point is inside and free. A list of points is a list of numbers, x and y in turn.
 -- Assumes nothing: these are definitions.
+use mathlib.Core.Path.{_≡_}
 use mathlib.Core.Bool.{Bool, true, _&&_, cond}
 use mathlib.Core.List.{List, [], _∷_}
 use Prim.Native.Nat.{ℕ, _*_, _%_}
 use lib.Dec.{ltb, eqb}
 use lib.IntN.{ℤ}
-use lib.ListN.{length, getD, drop}
+use lib.ListN.{length, getD, take, drop}
 use Rattle.points.specs.declared.Point.{Point}
 use Rattle.points.specs.declared.Refusal.the-variants.{List as ListBroken, BadPoint, State}
 use Rattle.cells.specs.Cells.{cellOf}
@@ -16,6 +17,8 @@ use Rattle.grid.specs.declared.Verdict.the-variants.{Yes, No, Refused}
 use Rattle.pairs.specs.Pairs.{point, firstBad}
 use Rattle.pairs.specs.declared.Bad.{Bad}
 use Rattle.pairs.specs.declared.Bad.the-variants.{At, Nowhere}
+use Rattle.paths.specs.Walks.{pathOf, pathAnswer, pathKept}
+use Rattle.paths.specs.declared.Written.the-variants.{Points}
 
 -- a point is inside and free
 unfoldable pub freeAt : ℕ → ℕ → List ℕ → Point → Bool
@@ -27,11 +30,11 @@ allFree w h blocked [] = true
 allFree w h blocked (x ∷ []) = true
 allFree w h blocked (x ∷ y ∷ l) = freeAt w h blocked (point x y) && allFree w h blocked l
 
--- every waypoint after the first is inside and free
+-- every cell of the expanded walk after the first point is inside and free
 abbrev pub clearOf : ℕ → ℕ → List ℕ → List ℤ → Bool
-clearOf w h blocked l = allFree w h blocked (drop 2 l)
+clearOf w h blocked l = allFree w h blocked (drop 2 (pathOf l))
 
--- clear exactly if every waypoint after the first is inside and free
+-- POINT with the first point out of range, else whether the list is clear
 abbrev pub judged : Bad → Bool → Verdict
 judged (At p) clear = Refused (BadPoint p)
 judged Nowhere clear = cond clear Yes No
@@ -46,3 +49,8 @@ checkIn w h blocked l =
 -- STATE, LIST, POINT
 unfoldable pub checkOf : Grid → List ℤ → Verdict
 checkOf g l = cond (legalOf g) (checkIn (g .width) (g .height) (g .blocked) l) (Refused State)
+
+-- for hosts that check the path: what `waypoints_to_path` wrote of a list, checked, says the same as the list
+abbrev pub PathSaysSame : Type 0
+PathSaysSame = (w h : ℕ) (blocked : List ℕ) (l out : List ℤ) (n : ℕ) → pathAnswer l (length out) ≡ Points n
+    → checkIn w h blocked (take (2 * n) (pathKept (Points n) l out)) ≡ checkIn w h blocked l

@@ -1,10 +1,14 @@
-// The route check: waypoints held against the cells.
+// The route check: the walk along a list of waypoints held against the cells.
 ghost use mathlib.Core.Path.{_≡_};
 ghost use Prim.Native.Nat.{_*_, _≤_};
+ghost use lib.Dec.{T};
 ghost use lib.ListN.{length};
+ghost use Rattle.points.specs.Plane.{legal};
 ghost use Rattle.cells.specs.Cells.{mostSide};
-ghost use Rattle.pairs.specs.Pairs.{Even};
-ghost use Rattle.checks.specs.Checks.{freeAt, clearOf, checkIn, checkOf};
+ghost use Rattle.pairs.specs.Pairs.{Even, firstBad};
+ghost use Rattle.pairs.specs.declared.Bad.the-variants.{Nowhere};
+ghost use Rattle.paths.specs.Walks.{spanOf, walkOf};
+ghost use Rattle.checks.specs.Checks.{freeAt, allFree, clearOf, checkIn, checkOf};
 use grid::Grid;
 use grid::Verdict;
 use pairs::Bad;
@@ -23,23 +27,42 @@ fn free_at(blocked: &[u8], w: usize, h: usize, p: Point) -> bool
     blocked[c] == 0
 }
 
-// Whether every waypoint after the first is inside and free.
-fn clear(blocked: &[u8], w: usize, h: usize, list: &[i32]) -> bool
-    requires { ⌜ (w ≤ mostSide) × (h ≤ mostSide) × (w * h ≤ length (now blocked)) × Even (length (now list)) ⌝ }
-    ensures { λ r. ⌜ r ≡ clearOf w h (now (blocked .entry)) (now (list .entry)) ⌝ }
+// Whether every point of the walk from p to q after p is inside and free. A point outside ends the walk, so it takes no more steps than the longer side has cells.
+fn leg_clear(blocked: &[u8], w: usize, h: usize, p: Point, q: Point) -> bool
+    requires { ⌜ (w ≤ mostSide) × (h ≤ mostSide) × (w * h ≤ length (now blocked)) × T (legal p) × T (legal q) ⌝ }
+    ensures { λ r. ⌜ r ≡ allFree w h (now (blocked .entry)) (walkOf (spanOf p q) p q) ⌝ }
 {
-    let mut i = 2;
-    while i < list.len() {
-        let p = pairs::point_at(list, i);
-        if !free_at(blocked, w, h, p) {
+    let mut here = p;
+    let mut left = paths::span(p, q);
+    while 0 < left {
+        here = paths::next(here, q);
+        if !free_at(blocked, w, h, here) {
             return false;
         }
+        left -= 1;
+    }
+    true
+}
+
+// Whether every point of the path after the first is inside and free, leg by leg.
+fn clear(blocked: &[u8], w: usize, h: usize, list: &[i32]) -> bool
+    requires { ⌜ (w ≤ mostSide) × (h ≤ mostSide) × (w * h ≤ length (now blocked)) × Even (length (now list)) × (1 ≤ length (now list)) × (firstBad (now list) ≡ Nowhere) ⌝ }
+    ensures { λ r. ⌜ r ≡ clearOf w h (now (blocked .entry)) (now (list .entry)) ⌝ }
+{
+    let mut p = pairs::point_at(list, 0);
+    let mut i = 2;
+    while i < list.len() {
+        let q = pairs::point_at(list, i);
+        if !leg_clear(blocked, w, h, p, q) {
+            return false;
+        }
+        p = q;
         i += 2;
     }
     true
 }
 
-// The route check on cells whose sides are known: clear exactly if every waypoint after the first is inside and free. Refuses LIST, POINT.
+// The route check on cells whose sides are known: clear exactly if every cell of the expanded walk after the first point is inside and free. Refuses LIST, POINT.
 pub fn check_list(blocked: &[u8], w: usize, h: usize, list: &[i32]) -> Verdict
     requires { ⌜ (w ≤ mostSide) × (h ≤ mostSide) × (w * h ≤ length (now blocked)) ⌝ }
     ensures { λ r. ⌜ r ≡ checkIn w h (now (blocked .entry)) (now (list .entry)) ⌝ }

@@ -81,13 +81,17 @@ walks = record {
   place = refl;
   refused = (refl, refl, refl);
   clear = (refl, refl);
+  between = refl;
+  first = (refl, refl);
   outside = refl;
+  within = (refl, refl);
+  bent = (refl, refl);
   unheard = (refl, refl, refl);
 }
 
 -- document 01's two maps, from text to text
 routed : (routeText (headOn 49 clearRow) ≡ checkedText verdict.Yes 3 three) × (routeText (headOn 49 wall) ≡ answerText 4 0 [] false)
-unfolding computing moreOf numberOf coordOf numberLine pointLine cellsThen rowOk rowsOf marks cellsOf sizeLine flagLine headOf mapOf cellsInto digitsIn floorGrid readOf routeText exactOf pointsText answerText statedOf rebuildOutcome firstBad freeAt allFree checkIn checkOf
+unfolding computing moreOf numberOf coordOf numberLine pointLine cellsThen rowOk rowsOf marks cellsOf sizeLine flagLine headOf mapOf cellsInto digitsIn floorGrid readOf routeText exactOf pointsText answerText statedOf rebuildOutcome firstBad walkOf pathFrom pathOf freeAt allFree checkIn checkOf
 routed = (refl, refl)
 
 prints : Prints

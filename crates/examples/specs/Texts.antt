@@ -153,8 +153,16 @@ pub record Walks : Type 0 where
       × (pathAnswer (pos 0 ∷ pos 1024 ∷ []) 0 ≡ written.Refused (refusal.BadPoint (at 0 1024)))
   -- a blocked waypoint clear, or the first one looked at: to (1,0) it is not clear, from (1,0) it is
   pub clear : (onWall (pos 0 ∷ pos 0 ∷ pos 1 ∷ pos 0 ∷ []) ≡ verdict.No) × (onWall (pos 1 ∷ pos 0 ∷ pos 2 ∷ pos 0 ∷ []) ≡ verdict.Yes)
+  -- the waypoints alone looked at: from (0,0) to (2,0) the way leads over (1,0)
+  pub between : onWall (pos 0 ∷ pos 0 ∷ pos 2 ∷ pos 0 ∷ []) ≡ verdict.No
+  -- a repeated first point looked at, or not where the walk comes back to it: (1,0), (1,0) is clear, and (1,0), (2,0), (1,0) is not
+  pub first : (onWall (pos 1 ∷ pos 0 ∷ pos 1 ∷ pos 0 ∷ []) ≡ verdict.Yes) × (onWall (pos 1 ∷ pos 0 ∷ pos 2 ∷ pos 0 ∷ pos 1 ∷ pos 0 ∷ []) ≡ verdict.No)
   -- a waypoint outside clear
   pub outside : onWall (pos 0 ∷ pos 0 ∷ pos 3 ∷ pos 0 ∷ []) ≡ verdict.No
+  -- a first point outside looked at, or what is walked outside after it not: from (-1,0) to (0,0) it is clear, from (-2,0) it is not
+  pub within : (onWall (negsuc 0 ∷ pos 0 ∷ pos 0 ∷ pos 0 ∷ []) ≡ verdict.Yes) × (onWall (negsuc 1 ∷ pos 0 ∷ pos 0 ∷ pos 0 ∷ []) ≡ verdict.No)
+  -- another walk of a bent leg: on `.#.` over `...` that from (0,0) to (2,1) goes over (1,1), and that from (2,1) to (0,0) over (1,0)
+  pub bent : (checkIn 3 2 (0 ∷ 1 ∷ 0 ∷ 0 ∷ 0 ∷ 0 ∷ []) (pos 0 ∷ pos 0 ∷ pos 2 ∷ pos 1 ∷ []) ≡ verdict.Yes) × (checkIn 3 2 (0 ∷ 1 ∷ 0 ∷ 0 ∷ 0 ∷ 0 ∷ []) (pos 2 ∷ pos 1 ∷ pos 0 ∷ pos 0 ∷ []) ≡ verdict.No)
   -- another refusal of the check
   pub unheard : (onWall [] ≡ verdict.Refused refusal.List) × (onWall (pos 0 ∷ []) ≡ verdict.Refused refusal.List)
       × (onWall (pos 0 ∷ pos 1024 ∷ []) ≡ verdict.Refused (refusal.BadPoint (at 0 1024)))

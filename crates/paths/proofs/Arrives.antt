@@ -19,7 +19,7 @@ abbrev along : ℕ → ℤ → ℤ → ℤ
 along zero a b = a
 along (suc n) a b = along n (closerTo a b) b
 
-closes : (a b : ℤ) → natAbs (b -ℤ closerTo a b) ≡ natAbs (b -ℤ a) - 1
+pub closes : (a b : ℤ) → natAbs (b -ℤ closerTo a b) ≡ natAbs (b -ℤ a) - 1
 closes a b = ap (λ (z : ℤ). natAbs (b -ℤ z)) (sym (step-is a (b -ℤ a))) ∙ nearer a b
 
 reaches : (n : ℕ) (a b : ℤ) → natAbs (b -ℤ a) ≤ n → along n a b ≡ b

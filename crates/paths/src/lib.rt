@@ -38,7 +38,7 @@ fn closer(a: i32, b: i32) -> i32
 }
 
 // How many steps lead from p to q: the longer of the two differences.
-fn span(p: Point, q: Point) -> usize
+pub fn span(p: Point, q: Point) -> usize
     requires { ⌜ T (legal p) × T (legal q) ⌝ }
     ensures { λ r. ⌜ (r ≡ spanOf p q) × (r ≤ 2047) ⌝ }
 {
@@ -51,7 +51,7 @@ fn span(p: Point, q: Point) -> usize
 }
 
 // One step from p towards q.
-fn next(p: Point, q: Point) -> Point
+pub fn next(p: Point, q: Point) -> Point
     requires { ⌜ T (legal p) × T (legal q) ⌝ }
     ensures { λ r. ⌜ (r ≡ nextTo p q) × T (legal r) ⌝ }
 {

@@ -17,7 +17,7 @@ It prints
                   joined, 6 where nothing is left to search, 7, 8 and 9 at a limit of the search
   pops=3          the cells that the search took up to look at
   waypoints=3     how many waypoints follow, from the start to the goal
-  clear=1         1 where each waypoint after the first is on a free cell, else 0
+  clear=1         1 where each cell on the way after the first is free, else 0
   point=0,0       a waypoint, x and y
 or, of a text that is no map,
   result=12

@@ -92,6 +92,24 @@ pub fn list_refused(v: &[i32]) -> Option<(u8, Point)> {
         .find(|p| !in_range(*p))?;
     Some((14, bad))
 }
+/// Document 02's rule of a list that is not refused: every cell of the expanded walk after the first point is inside and free.
+/// It is judged twice, by the path that the unchanged Rust makes and by the cells of each leg (`leg`), and both must say the same.
+pub fn clear(w: i32, h: i32, blocked: &[bool], list: &[Point]) -> bool {
+    let free =
+        |p: Point| p.x >= 0 && p.y >= 0 && p.x < w && p.y < h && !blocked[(p.y * w + p.x) as usize];
+    let by_rust = plain::waypoints_to_path(list.to_vec())[1..]
+        .iter()
+        .all(|p| free(*p));
+    let by_legs = list.windows(2).all(|ends| leg(ends[0], ends[1]).all(free));
+    assert_eq!(by_rust, by_legs, "the judges differ on {list:?}");
+    by_legs
+}
+/// The cells of a leg after its first: k steps on, each coordinate has gone k of its difference, or all of it.
+fn leg(p: Point, q: Point) -> impl Iterator<Item = Point> {
+    let (across, down) = (q.x - p.x, q.y - p.y);
+    let steps = across.abs().max(down.abs());
+    (1..=steps).map(move |k| Point::new(p.x + across.clamp(-k, k), p.y + down.clamp(-k, k)))
+}
 /// The refusals that come before a search, in document 01's order: SETTING, GOALS, POINT.
 fn refused_before(a: &Ask) -> Option<Answer> {
     let no = |result: u8, point: Point| {

@@ -551,6 +551,54 @@ pub fn any_numbers(most: i32, w: i32, h: i32, r: &mut Rng) -> Vec<i32> {
     }
     v
 }
+/// The numbers of a list for the route check on a floor. Its waypoints are mostly free cells, so that what lies between them decides;
+/// the first may be blocked, outside or repeated, and later ones come back to it. At times the list has one fault, or several.
+pub fn check_numbers(w: i32, h: i32, blocked: &[bool], r: &mut Rng) -> Vec<i32> {
+    let (benches, aisles): (Vec<i32>, Vec<i32>) = (0..w * h).partition(|i| blocked[*i as usize]);
+    let among = |cells: &[i32], r: &mut Rng| match cells.len() as u64 {
+        0 => Point::new(r.range(0, w - 1), r.range(0, h - 1)),
+        n => {
+            let i = cells[r.below(n) as usize];
+            Point::new(i % w, i / w)
+        }
+    };
+    let near = |r: &mut Rng| Point::new(r.range(-3, w + 2), r.range(-3, h + 2));
+    let far = |r: &mut Rng| Point::new(r.range(-1024, 1023), r.range(-1024, 1023));
+    let first = match r.below(12) {
+        0 => near(r),
+        1 => far(r),
+        2..=4 => among(&benches, r),
+        _ => among(&aisles, r),
+    };
+    let mut list = vec![first; 1 + r.pct(12) as usize];
+    for _ in 0..r.below(7) {
+        let last = list[list.len() - 1];
+        list.push(match r.below(24) {
+            0..=2 => first,
+            3 => last,
+            4 => near(r),
+            5 => far(r),
+            6 => among(&benches, r),
+            7..=11 => {
+                let (d, k) = (r.range(0, 7), r.range(1, 5));
+                (0..k).fold(last, |p, _| p.moore_neighbor(d))
+            }
+            _ => among(&aisles, r),
+        });
+    }
+    let mut v: Vec<i32> = list.iter().flat_map(|p| [p.x, p.y]).collect();
+    for _ in 0..[0, 0, 0, 0, 0, 0, 0, 0, 1, 2][r.below(10) as usize] {
+        let i = r.below(v.len() as u64) as usize;
+        v[i] = [-1025, 1024, 32_767, -32_768][r.below(4) as usize];
+    }
+    if r.pct(4) {
+        v.pop();
+    }
+    if r.pct(2) {
+        v.clear();
+    }
+    v
+}
 pub fn points_of(v: &[i32]) -> Vec<Point> {
     v.chunks(2).map(|c| Point::new(c[0], c[1])).collect()
 }

@@ -1,5 +1,6 @@
 //! The map program of document 01 over the Rust: its text read, its answer written.
 
+use crate::judge::clear;
 use crate::stats;
 use grid_pathfinding as plain;
 use grid_pathfinding_instr as instr;
@@ -170,7 +171,7 @@ pub struct Routed {
     pub points: Vec<Point>,
     pub map: Option<Map>,
 }
-/// What document 01 says `route` prints. The unchanged library answers too and must agree.
+/// What document 01 says `route` prints, with document 02's `clear=`. The unchanged library answers too and must agree.
 pub fn route(input: &[u8], limits: stats::Limits) -> Routed {
     stats::reset();
     let m = match parse(input) {
@@ -204,11 +205,7 @@ pub fn route(input: &[u8], limits: stats::Limits) -> Routed {
         (None, n) => n as u32,
     };
     let points = found.unwrap_or_default();
-    // clear: every waypoint after the first is inside and free
-    let clear = result == 0
-        && points[1..].iter().all(|q| {
-            q.x >= 0 && q.y >= 0 && q.x < m.w && q.y < m.h && !m.blocked[(q.y * m.w + q.x) as usize]
-        });
+    let clear = result == 0 && clear(m.w, m.h, &m.blocked, &points);
     let mut out = format!(
         "result={}\npops={}\nwaypoints={}\nclear={}\n",
         result,

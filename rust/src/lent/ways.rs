@@ -105,12 +105,15 @@ pub fn waypoints_to_path(list: &[i32], out: &mut [i32]) -> Result<usize, Refusal
     listed(raw::waypoints_to_path(list, out))
 }
 
-/// Whether every waypoint after the first, x and y in turn, is inside and free. Refuses STATE, LIST, POINT.
+/// Whether the way along a waypoint list, x and y in turn, is clear now: every cell of its path after the first point is inside and
+/// free. Refuses STATE, LIST, POINT.
 ///
 /// ```
-/// use barnsling::{lent, Grid};
-/// let floor = Grid::new(2, 1)?;
-/// assert_eq!(lent::check_route(floor.tables().cells(), &[0, 0, 1, 0]), Ok(true));
+/// use barnsling::{lent, Grid, Point};
+/// let mut floor = Grid::new(3, 1)?;
+/// assert_eq!(lent::check_route(floor.tables().cells(), &[0, 0, 2, 0]), Ok(true));
+/// assert_eq!(lent::check_route(floor.tables().cells(), &[0, 0, 3, 0]), Ok(false));
+/// floor.set(Point::new(1, 0), true)?;
 /// assert_eq!(lent::check_route(floor.tables().cells(), &[0, 0, 2, 0]), Ok(false));
 /// # Ok::<(), barnsling::Refusal>(())
 /// ```

@@ -126,7 +126,7 @@ pub fn waypoints_to_path(list: &[i32], out: &mut [i32]) -> Reply {
     unsafe { barnsling_waypoints_to_path(list.as_ptr(), list.len(), out.as_mut_ptr(), out.len()) }
 }
 
-/// Whether every waypoint after the first is inside and free: `value` 1 or 0. Refuses STATE, LIST, POINT.
+/// Whether every cell of the path after the first point is inside and free: `value` 1 or 0. Refuses STATE, LIST, POINT.
 #[inline]
 pub fn check_route(t: Cells<'_>, list: &[i32]) -> Reply {
     unsafe {

@@ -29,7 +29,9 @@ enum-told : tie.Need-enum-told
 enum-told c = search needs
 
 clear-requires : tie.Need-clear-requires
-clear-requires c κs = let p = c .before .before .before .before .before .before .pre in (p .0, p .1, p .2, omega (arith, c .before .before .before .if2 .left))
+clear-requires c κs =
+    let p = c .before .before .before .before .before .before .pre in
+    (p .0, p .1, p .2, omega (arith, c .before .before .before .if2 .left), omega (arith, c .before .before .before .before .if1 .left), sym (c .before .before .bad-point .ensures) ∙ c .enum-told .given .1)
 
 returns-4 : tie.Need-returns-4
 returns-4 c =
