@@ -2,8 +2,8 @@
  * What barnsling.h claims beside the answers, tried on the archive: c/run builds and runs it.
  *
  * Empty slices may be null; a refusal writes nothing; which of two points is told for POINT alone; a controller that repeats its
- * orders does no harm through barnsling_grid_gate; an edit that changes nothing stores nothing; and no call takes more stack than the
- * header says.
+ * orders does no harm through barnsling_grid_gate; which cells of a way the check looks at; an edit that changes nothing stores nothing;
+ * and no call takes more stack than the header says.
  */
 #define _XOPEN_SOURCE 600
 #include "barnsling.h"
@@ -92,6 +92,27 @@ static void repeated_orders(void)
     claim("a gate shut twice stays shut", hall.dirty == 0 && barnsling_grid_reachable(&hall, 0, 0, 2, 0) == 0);
     barnsling_grid_gate(&hall, 1, 0, 0);
     claim("and opens", barnsling_grid_blocked_at(&hall, 1, 0) == 0 && barnsling_grid_reachable(&hall, 0, 0, 2, 0) == 1);
+}
+
+/* ---- The whole way -------------------------------------------------------------------------------------------- */
+
+/* The check of a list of three points in the first row, by their columns. */
+static uint64_t clear(const struct barnsling_grid *g, int32_t from, int32_t over, int32_t to)
+{
+    int32_t list[] = {from, 0, over, 0, to, 0};
+    return barnsling_grid_check_route(g, list, 6).value;
+}
+
+static void whole_way(void)
+{
+    static struct barnsling_grid hall;
+    barnsling_grid_new(&hall, 4, 1);
+    barnsling_grid_gate(&hall, 1, 0, 1);
+    claim("a bench between two points is seen", clear(&hall, 0, 0, 2) == 0);
+    claim("a blocked first point is not looked at", clear(&hall, 1, 1, 3) == 1);
+    claim("but where the way comes back to it", clear(&hall, 1, 3, 1) == 0);
+    claim("nor is one outside", clear(&hall, 4, 3, 2) == 1);
+    claim("but what is walked outside after it", clear(&hall, 5, 3, 2) == 0);
 }
 
 /* ---- Stores --------------------------------------------------------------------------------------------------- */
@@ -217,6 +238,7 @@ int main(void)
     null_lists();
     refusals();
     repeated_orders();
+    whole_way();
     stores();
     stacks();
     printf("c/claims: %d of the header's claims tried, %d broken\n", claims, broken);

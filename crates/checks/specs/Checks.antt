@@ -50,7 +50,7 @@ checkIn w h blocked l =
 unfoldable pub checkOf : Grid → List ℤ → Verdict
 checkOf g l = cond (legalOf g) (checkIn (g .width) (g .height) (g .blocked) l) (Refused State)
 
--- for hosts that check the path: what `waypoints_to_path` wrote of a list, checked, says the same as the list
+-- for hosts that check the path: the n points that `waypoints_to_path` writes of a list l into the room out, checked, say the same as l
 abbrev pub PathSaysSame : Type 0
 PathSaysSame = (w h : ℕ) (blocked : List ℕ) (l out : List ℤ) (n : ℕ) → pathAnswer l (length out) ≡ Points n
     → checkIn w h blocked (take (2 * n) (pathKept (Points n) l out)) ≡ checkIn w h blocked l
