@@ -5,7 +5,7 @@ use mathlib.Core.List.{List}
 use Prim.Native.Nat.{ℕ}
 use lib.IntN.{ℤ}
 use Rattle.points.specs.declared.Refusal.the-variants.{State}
-use Rattle.grid.specs.declared.Verdict.the-variants.{Refused}
+use Rattle.checks.specs.declared.Checked.the-variants.{Refused}
 use Rattle.checks.specs.Checks.{checkIn}
 use Rattle.boundary.specs.Lent.{groundOk}
 use Rattle.boundary.specs.Walks.{checkLent}

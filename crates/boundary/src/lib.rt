@@ -33,9 +33,9 @@ pub mod walks;
 // The number of this interface, which the header and the Rust crate name too: it rises where a declaration, what an answer says or its form, or a refusal's number changes.
 #[no_mangle]
 pub extern "C" fn barnsling_version() -> u32
-    ensures { λ r. ⌜ r ≡ 3 ⌝ }
+    ensures { λ r. ⌜ r ≡ 4 ⌝ }
 {
-    3
+    4
 }
 
 // The forced mask of a neighbour mask.
@@ -54,7 +54,8 @@ pub extern "C" fn barnsling_pruned_mask(diagonal: u8, direction: u8, neighbours:
     masks::pruned_mask(flag(diagonal), direction, neighbours)
 }
 
-// The direction from a to b: below 8, or 2^32 * refusal, where POINT has 256 more for the first point and 512 more for the second. Refuses POINT, SAME.
+// The direction from a to b, 8 more where it is bent, and 16 times how many steps lead there; or 2^32 * refusal, where POINT has 256 more for the
+// first point and 512 more for the second. Refuses POINT, SAME.
 #[no_mangle]
 pub extern "C" fn barnsling_direction(ax: i32, ay: i32, bx: i32, by: i32) -> u64
     ensures { λ r. ⌜ r ≡ headingPacked (directionOf (pointOf ax ay) (pointOf bx by)) (pointOf ax ay) ⌝ }

@@ -1,6 +1,6 @@
 -- The route check, step by step and leg by leg, and by its tests. Assumes nothing.
 use mathlib.Core.Path.{_≡_, refl, sym, ap, _∙_}
-use mathlib.Core.Bool.{Bool, true, false, _&&_, cond, and-assoc}
+use mathlib.Core.Bool.{Bool, true, false, _&&_, and-assoc}
 use mathlib.Core.List.{List, [], _∷_, _++_}
 use Prim.Native.Nat.{ℕ, zero, suc, _+_, _-_, _*_, _%_, _≤_, _<_}
 use native.Mathlib.Omega.{arith}
@@ -13,12 +13,15 @@ use Rattle.points.specs.declared.Refusal.the-variants.{List as ListBroken, BadP
 use Rattle.cells.specs.Cells.{cellOf}
 use Rattle.grid.specs.Grids.{legalOf}
 use Rattle.grid.specs.declared.Grid.{Grid}
-use Rattle.grid.specs.declared.Verdict.the-variants.{Yes, No, Refused}
 use Rattle.pairs.specs.Pairs.{Even, point, pointAt, firstBad}
 use Rattle.pairs.specs.declared.Bad.{Bad}
 use Rattle.pairs.specs.declared.Bad.the-variants.{At, Nowhere}
-use Rattle.paths.specs.Walks.{nextTo, spanOf, walkOf, pathFrom}
+use Rattle.headings.specs.Headings.{spanOf}
+use Rattle.bends.specs.declared.Bend.{Bend}
+use Rattle.bends.specs.Bends.{firstBentOf}
+use Rattle.paths.specs.Walks.{nextTo, walkOf, pathFrom}
 use Rattle.paths.proofs.Laws.{walk-length, path-more, path-end, path-whole}
+use Rattle.checks.specs.declared.Checked.the-variants.{Judged, Refused}
 use Rattle.checks.specs.Checks.{freeAt, allFree, clearOf, judged, checkIn, checkOf}
 
 -- ---- a point
@@ -95,15 +98,15 @@ module _ (w h : ℕ) (blocked : List ℕ) (l : List ℤ) where
     check-odd e = rw (ne-eqb (length l) 0 some, eq-eqb (length l % 2) 1 e)
 
     module _ (even : length l % 2 ≡ 1 → ⊥) where
-      whole : checkIn w h blocked l ≡ judged (firstBad l) (clearOf w h blocked l)
+      whole : checkIn w h blocked l ≡ judged (firstBad l) (clearOf w h blocked l) (firstBentOf l)
       unfolding checkIn
       whole = rw (ne-eqb (length l) 0 some, ne-eqb (length l % 2) 1 even)
 
       pub check-point : (p : Point) → firstBad l ≡ At p → Refused (BadPoint p) ≡ checkIn w h blocked l
-      check-point p e = sym (whole ∙ ap (λ (b : Bad). judged b (clearOf w h blocked l)) e)
+      check-point p e = sym (whole ∙ ap (λ (b : Bad). judged b (clearOf w h blocked l) (firstBentOf l)) e)
 
-      pub check-clear : (t : Bool) → firstBad l ≡ Nowhere → t ≡ clearOf w h blocked l → cond t Yes No ≡ checkIn w h blocked l
-      check-clear t e f = sym (whole ∙ ap (λ (b : Bad). judged b (clearOf w h blocked l)) e ∙ ap (λ (b : Bool). cond b Yes No) (sym f))
+      pub check-judged : (t : Bool) (s : Bend) → firstBad l ≡ Nowhere → t ≡ clearOf w h blocked l → s ≡ firstBentOf l → Judged t s ≡ checkIn w h blocked l
+      check-judged t s e f g = sym (whole ∙ ap (λ (b : Bad). judged b (clearOf w h blocked l) (firstBentOf l)) e ∙ (λ i. Judged (sym f i) (sym g i)))
 
 -- ---- the check on a grid: STATE first
 module _ (g : Grid) (l : List ℤ) where

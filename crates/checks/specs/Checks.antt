@@ -1,4 +1,5 @@
--- The route check: clear exactly if every cell of the expanded walk after the first point is inside and free. A list of points is a list of numbers, x and y in turn.
+-- The route check: clear exactly if every cell of the expanded walk after the first point is inside and free; and the first bent leg, clear or not.
+-- A list of points is a list of numbers, x and y in turn.
 -- Assumes nothing: these are definitions.
 use mathlib.Core.Path.{_≡_}
 use mathlib.Core.Bool.{Bool, true, _&&_, cond}
@@ -12,13 +13,16 @@ use Rattle.points.specs.declared.Refusal.the-variants.{List as ListBroken, BadP
 use Rattle.cells.specs.Cells.{cellOf}
 use Rattle.grid.specs.Grids.{legalOf}
 use Rattle.grid.specs.declared.Grid.{Grid}
-use Rattle.grid.specs.declared.Verdict.{Verdict}
-use Rattle.grid.specs.declared.Verdict.the-variants.{Yes, No, Refused}
 use Rattle.pairs.specs.Pairs.{point, firstBad}
 use Rattle.pairs.specs.declared.Bad.{Bad}
 use Rattle.pairs.specs.declared.Bad.the-variants.{At, Nowhere}
+use Rattle.bends.specs.declared.Bend.{Bend}
+use Rattle.bends.specs.declared.Bend.the-variants.{None}
+use Rattle.bends.specs.Bends.{firstBentOf}
 use Rattle.paths.specs.Walks.{pathOf, pathAnswer, pathKept}
 use Rattle.paths.specs.declared.Written.the-variants.{Points}
+use Rattle.checks.specs.declared.Checked.{Checked}
+use Rattle.checks.specs.declared.Checked.the-variants.{Judged, Refused}
 
 -- a point is inside and free
 unfoldable pub freeAt : ℕ → ℕ → List ℕ → Point → Bool
@@ -34,23 +38,28 @@ allFree w h blocked (x ∷ y ∷ l) = freeAt w h blocked (point x y) && allFree 
 abbrev pub clearOf : ℕ → ℕ → List ℕ → List ℤ → Bool
 clearOf w h blocked l = allFree w h blocked (drop 2 (pathOf l))
 
--- POINT with the first point out of range, else whether the list is clear
-abbrev pub judged : Bad → Bool → Verdict
-judged (At p) clear = Refused (BadPoint p)
-judged Nowhere clear = cond clear Yes No
+-- POINT with the first point out of range, else whether the list is clear and its first bent leg
+abbrev pub judged : Bad → Bool → Bend → Checked
+judged (At p) clear bend = Refused (BadPoint p)
+judged Nowhere clear bend = Judged clear bend
 
 -- LIST, POINT, over the cells of a grid
-unfoldable pub checkIn : ℕ → ℕ → List ℕ → List ℤ → Verdict
+unfoldable pub checkIn : ℕ → ℕ → List ℕ → List ℤ → Checked
 checkIn w h blocked l =
     cond (eqb (length l) 0) (Refused ListBroken)
     (cond (eqb (length l % 2) 1) (Refused ListBroken)
-    (judged (firstBad l) (clearOf w h blocked l)))
+    (judged (firstBad l) (clearOf w h blocked l) (firstBentOf l)))
 
 -- STATE, LIST, POINT
-unfoldable pub checkOf : Grid → List ℤ → Verdict
+unfoldable pub checkOf : Grid → List ℤ → Checked
 checkOf g l = cond (legalOf g) (checkIn (g .width) (g .height) (g .blocked) l) (Refused State)
 
--- for hosts that check the path: the n points that `waypoints_to_path` writes of a list l into the room out, checked, say the same as l
+-- the same with no bent leg
+abbrev pub unbent : Checked → Checked
+unbent (Judged clear bend) = Judged clear None
+unbent (Refused r) = Refused r
+
+-- for hosts that check the path: the n points that `waypoints_to_path` writes of a list l into the room out, checked, are as clear as l, and no leg of them is bent
 abbrev pub PathSaysSame : Type 0
 PathSaysSame = (w h : ℕ) (blocked : List ℕ) (l out : List ℤ) (n : ℕ) → pathAnswer l (length out) ≡ Points n
-    → checkIn w h blocked (take (2 * n) (pathKept (Points n) l out)) ≡ checkIn w h blocked l
+    → checkIn w h blocked (take (2 * n) (pathKept (Points n) l out)) ≡ unbent (checkIn w h blocked l)

@@ -7,13 +7,20 @@ ghost use Rattle.points.specs.Plane.{legal};
 ghost use Rattle.cells.specs.Cells.{mostSide};
 ghost use Rattle.pairs.specs.Pairs.{Even, firstBad};
 ghost use Rattle.pairs.specs.declared.Bad.the-variants.{Nowhere};
-ghost use Rattle.paths.specs.Walks.{spanOf, walkOf};
+ghost use Rattle.headings.specs.Headings.{spanOf};
+ghost use Rattle.paths.specs.Walks.{walkOf};
 ghost use Rattle.checks.specs.Checks.{freeAt, allFree, clearOf, checkIn, checkOf};
+use bends::Bend;
 use grid::Grid;
-use grid::Verdict;
 use pairs::Bad;
 use points::Point;
 use points::Refusal;
+
+// Whether a list is clear, and its first bent leg, clear or not; or a refusal, which names no leg.
+pub enum Checked {
+    Judged(bool, Bend),
+    Refused(Refusal),
+}
 
 // Whether a point is inside and free.
 fn free_at(blocked: &[u8], w: usize, h: usize, p: Point) -> bool
@@ -32,10 +39,11 @@ fn leg_clear(blocked: &[u8], w: usize, h: usize, p: Point, q: Point) -> bool
     requires { ⌜ (w ≤ mostSide) × (h ≤ mostSide) × (w * h ≤ length (now blocked)) × T (legal p) × T (legal q) ⌝ }
     ensures { λ r. ⌜ r ≡ allFree w h (now (blocked .entry)) (walkOf (spanOf p q) p q) ⌝ }
 {
+    let heading = headings::direction_between(p, q);
+    let mut left = heading.steps();
     let mut here = p;
-    let mut left = paths::span(p, q);
     while 0 < left {
-        here = paths::next(here, q);
+        here = paths::onward(heading, here, q);
         if !free_at(blocked, w, h, here) {
             return false;
         }
@@ -62,33 +70,32 @@ fn clear(blocked: &[u8], w: usize, h: usize, list: &[i32]) -> bool
     true
 }
 
-// The route check on cells whose sides are known: clear exactly if every cell of the expanded walk after the first point is inside and free. Refuses LIST, POINT.
-pub fn check_list(blocked: &[u8], w: usize, h: usize, list: &[i32]) -> Verdict
+// The route check on cells whose sides are known: clear exactly if every cell of the expanded walk after the first point is inside and free,
+// and the first bent leg whether clear or not. Refuses LIST, POINT.
+pub fn check_list(blocked: &[u8], w: usize, h: usize, list: &[i32]) -> Checked
     requires { ⌜ (w ≤ mostSide) × (h ≤ mostSide) × (w * h ≤ length (now blocked)) ⌝ }
     ensures { λ r. ⌜ r ≡ checkIn w h (now (blocked .entry)) (now (list .entry)) ⌝ }
 {
     if list.len() == 0 {
-        return Verdict::Refused(Refusal::List);
+        return Checked::Refused(Refusal::List);
     }
     if list.len() % 2 == 1 {
-        return Verdict::Refused(Refusal::List);
+        return Checked::Refused(Refusal::List);
     }
     let bad = pairs::bad_point(list);
     if let Bad::At(p) = bad {
-        return Verdict::Refused(Refusal::BadPoint(p));
+        return Checked::Refused(Refusal::BadPoint(p));
     }
-    if clear(blocked, w, h, list) {
-        return Verdict::Yes;
-    }
-    Verdict::No
+    let bend = bends::first_bent(list);
+    Checked::Judged(clear(blocked, w, h, list), bend)
 }
 
 // The route check on a grid. Refuses STATE, LIST, POINT.
-pub fn check_route(g: Grid, list: &[i32]) -> Verdict
+pub fn check_route(g: Grid, list: &[i32]) -> Checked
     ensures { λ r. ⌜ r ≡ checkOf g (now (list .entry)) ⌝ }
 {
     if !grid::legal(g) {
-        return Verdict::Refused(Refusal::State);
+        return Checked::Refused(Refusal::State);
     }
     let blocked = g.blocked;
     check_list(&blocked, g.width, g.height, list)

@@ -27,6 +27,9 @@ points =
       told = refl;
       carried = (refl, refl);
       signs = (refl, refl);
+      slants = (refl, refl);
+      larger = (refl, refl);
+      ways = (refl, refl, refl, refl);
       sameRefused = refl;
     }
 

@@ -44,5 +44,5 @@ replies =
       not-found = (refl, refl);
       concerned = refl;
       unwritten = refl;
-      judged = (refl, refl, refl);
+      checked = (refl, refl, refl, refl);
     }

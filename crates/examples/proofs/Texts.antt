@@ -23,16 +23,16 @@ use Rattle.tables.specs.Tables.{newOf}
 use Rattle.grid.specs.Grids.{statedOf, newGrid, rebuildOutcome}
 use Rattle.pairs.specs.Pairs.{firstBad}
 use Rattle.paths.specs.Walks.{walkOf, pathFrom, pathOf, countedOf, pathAnswer}
+use Rattle.bends.specs.Bends.{bentFrom, firstBentOf}
 use Rattle.checks.specs.Checks.{freeAt, allFree, checkIn, checkOf}
 use Rattle.answers.specs.Answers.{pointsText, answerText, badText}
 use Rattle.floors.specs.Floors.{floorGrid, readOf, shownOf, putOf}
 use Rattle.floors.specs.declared.Put.the-variants as put
 use Rattle.boundary.specs.Lent.{linksOk, groundOk}
 use Rattle.boundary.specs.Texts.{printedOf}
-use Rattle.grid.specs.declared.Verdict.the-variants as verdict
 use Rattle.router.specs.Route.{exactOf, checkedText, routeText}
 use Rattle.examples.proofs.Searches.{computing}
-use Rattle.examples.specs.Texts.{at, headOn, clearRow, wall, three, Lines, Maps, Walks, Prints, Numbers, Texts}
+use Rattle.examples.specs.Texts.{at, headOn, clearRow, wall, unbent, three, Lines, Maps, Walks, Prints, Numbers, Texts}
 
 lines : Lines
 unfolding moreOf numberOf coordOf numberLine pointLine digitsIn
@@ -71,7 +71,7 @@ maps = record {
 }
 
 walks : Walks
-unfolding walkOf pathFrom pathOf firstBad countedOf pathAnswer cellOf freeAt allFree checkIn
+unfolding walkOf pathFrom pathOf firstBad countedOf pathAnswer cellOf freeAt allFree bentFrom firstBentOf checkIn
 walks = record {
   read = refl;
   firstBlamed = refl;
@@ -86,12 +86,14 @@ walks = record {
   outside = refl;
   within = (refl, refl);
   bent = (refl, refl);
+  legs = (refl, refl, refl, refl);
+  beyond = refl;
   unheard = (refl, refl, refl);
 }
 
 -- document 01's two maps, from text to text
-routed : (routeText (headOn 49 clearRow) ≡ checkedText verdict.Yes 3 three) × (routeText (headOn 49 wall) ≡ answerText 4 0 [] false)
-unfolding computing moreOf numberOf coordOf numberLine pointLine cellsThen rowOk rowsOf marks cellsOf sizeLine flagLine headOf mapOf cellsInto digitsIn floorGrid readOf routeText exactOf pointsText answerText statedOf rebuildOutcome firstBad walkOf pathFrom pathOf freeAt allFree checkIn checkOf
+routed : (routeText (headOn 49 clearRow) ≡ checkedText (unbent true) 3 three) × (routeText (headOn 49 wall) ≡ answerText 4 0 [] false)
+unfolding computing moreOf numberOf coordOf numberLine pointLine cellsThen rowOk rowsOf marks cellsOf sizeLine flagLine headOf mapOf cellsInto digitsIn floorGrid readOf routeText exactOf pointsText answerText statedOf rebuildOutcome firstBad walkOf pathFrom pathOf freeAt allFree bentFrom firstBentOf checkIn checkOf
 routed = (refl, refl)
 
 prints : Prints
@@ -111,6 +113,7 @@ numbers = record {
   point = refl;
   blamed = (refl, refl);
   unblamed = (refl, refl);
+  heading = (refl, refl);
   short = (refl, refl);
   room = ((λ t. refl), (λ t. refl));
   points = refl;

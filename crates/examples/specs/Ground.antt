@@ -8,11 +8,12 @@ use lib.IntN.{ℤ, pos, negsuc, _-ℤ_, natAbs}
 use lib.Ieee.{Float, nan, inf, fin}
 use Rattle.points.specs.Plane.{inRange, legal}
 use Rattle.points.specs.Compass.{moved, dir, signOf, clockwise, counterclockwise, diagonalOf, splitOf}
-use Rattle.headings.specs.Headings.{headingOf}
+use Rattle.headings.specs.Headings.{wayOf, stepsOf, headingOf}
+use Rattle.headings.specs.declared.Heading.the-variants.{Straight, Bent, Refused}
+use Rattle.headings.specs.declared.Way.the-variants.{Along, Still}
 use Rattle.points.specs.Refusals.{toldOf}
 use Rattle.points.specs.declared.Point.{Point}
 use Rattle.points.specs.declared.Refusal.the-variants as refusal
-use Rattle.points.specs.declared.Heading.the-variants.{Toward, Refused}
 use Rattle.points.specs.declared.Sign.the-variants.{Minus, Plus}
 use Rattle.points.specs.declared.Parts.the-variants.{Pair, Whole}
 use Rattle.costs.specs.Cost.{distOf}
@@ -82,8 +83,14 @@ pub record Points : Type 0 where
   pub told : numbers ≡ 1 ∷ 2 ∷ 3 ∷ 4 ∷ 5 ∷ 6 ∷ 7 ∷ 8 ∷ 9 ∷ 10 ∷ 11 ∷ 12 ∷ 13 ∷ 14 ∷ []
   -- the line or the point lost
   pub carried : (toldOf (refusal.Map 3) .line ≡ 3) × (toldOf (refusal.Same (at (pos 5) (pos 7))) .point ≡ at (pos 5) (pos 7))
-  -- signs swapped; and the sign alone counts, aligned or not
-  pub signs : (headingOf origin (at (pos 2) (pos 0)) ≡ Toward (dir 2)) × (headingOf origin (at (pos 5) (minus 1)) ≡ Toward (dir 1))
+  -- signs swapped; and the sign alone gives the direction, aligned or not
+  pub signs : (headingOf origin (at (pos 2) (pos 0)) ≡ Straight (dir 2) 2) × (headingOf origin (at (pos 5) (minus 1)) ≡ Bent (dir 1) 5)
+  -- a slant called bent, or its differences held against each other with their signs
+  pub slants : (headingOf origin (at (pos 3) (pos 3)) ≡ Straight (dir 3) 3) × (headingOf origin (at (pos 3) (minus 3)) ≡ Straight (dir 1) 3)
+  -- the smaller difference told, or their sum, or what is near a slant called straight: either may be the larger
+  pub larger : (headingOf origin (at (pos 4) (pos 3)) ≡ Bent (dir 3) 4) × (headingOf origin (at (minus 3) (pos 4)) ≡ Bent (dir 5) 4)
+  -- the direction of a bent one lost, or a way or steps between equal points
+  pub ways : (wayOf (Straight (dir 1) 3) ≡ Along (dir 1)) × (wayOf (Bent (dir 3) 4) ≡ Along (dir 3)) × (wayOf (Refused refusal.State) ≡ Still) × (stepsOf (Refused refusal.State) ≡ 0)
   -- a direction between equal points, or another point told
   pub sameRefused : headingOf (at (pos 5) (pos 7)) (at (pos 5) (pos 7)) ≡ Refused (refusal.Same (at (pos 5) (pos 7)))
 

@@ -10,18 +10,19 @@ use Rattle.points.specs.declared.Point.{Point}
 use Rattle.points.specs.declared.Refusal.the-variants as refusal
 use Rattle.costs.specs.Scale.{one}
 use Rattle.offers.specs.Search.{refused}
-use Rattle.grid.specs.declared.Verdict.the-variants as Verdict
+use Rattle.bends.specs.declared.Bend.the-variants.{Leg, None}
+use Rattle.checks.specs.declared.Checked.the-variants as Checked
 use Rattle.paths.specs.declared.Written.the-variants as Written
 use Rattle.tables.specs.Tables.{Tables}
 use Rattle.finder.specs.declared.Outcome.the-variants as Outcome
 use Rattle.finder.specs.Find.{Ground, ground}
 use Rattle.packing.specs.Packing.{flagOf, pointOf, refusedAs, markOf, settingsOf}
-use Rattle.replies.specs.Replies.{routeOf, valueReply, toldReply, writtenReply, verdictReply}
+use Rattle.replies.specs.Replies.{routeOf, toldReply, writtenReply, checkReply}
 use Rattle.boundary.specs.Lent as lent
 use Rattle.boundary.specs.Searches.{singleLent, severalLent}
 use Rattle.boundary.specs.Walks.{checkLent}
 use Rattle.examples.specs.Searches.{told, most}
-use Rattle.examples.specs.Orders.{here, beside, far, low, never, three, bothBad, deniedBy}
+use Rattle.examples.specs.Orders.{here, beside, far, low, blamed, never, three, bothBad}
 
 -- tables of 2 by 1 cells that a host lends: zeros; parents that are no cells; and each cell its own parent
 abbrev pub zeros : List ℕ
@@ -72,8 +73,8 @@ pub record Hosts : Type 0 where
   pub single-goal : (singleLent floor wild zeros never most false far low ≡ refused refusal.State 0) × (singleLent floor own zeros never most false far low ≡ refused refusal.Setting 0)
   pub multiple-goals : (severalLent floor wild zeros never most far three ≡ refused refusal.State 0) × (severalLent floor own zeros never most far three ≡ refused refusal.Setting 0)
   -- STATE, LIST, POINT
-  pub check-route : (checkLent 2 1 zeros wild zeros three ≡ Verdict.Refused refusal.State) × (checkLent 2 1 zeros own zeros three ≡ Verdict.Refused refusal.List)
-      × (checkLent 2 1 zeros own zeros bothBad ≡ deniedBy far)
+  pub check-route : (checkLent 2 1 zeros wild zeros three ≡ Checked.Refused refusal.State) × (checkLent 2 1 zeros own zeros three ≡ Checked.Refused refusal.List)
+      × (checkLent 2 1 zeros own zeros bothBad ≡ Checked.Refused (blamed far))
 
 -- (5,7)
 abbrev pub there : Point
@@ -100,6 +101,8 @@ pub record Replies : Type 0 where
   pub concerned : toldReply (toldOf (refusal.BadPoint there)) ≡ record { refusal = 14; value = 0; x = pos 5; y = pos 7 }
   -- a refusal of a path told as a count, or as another
   pub unwritten : writtenReply (Written.Refused refusal.Room) ≡ record { refusal = 10; value = 0; x = pos 0; y = pos 0 }
-  -- clear and not clear exchanged, or a refusal told as not clear
-  pub judged : (verdictReply Verdict.Yes ≡ valueReply 1) × (verdictReply Verdict.No ≡ valueReply 0)
-      × (verdictReply (Verdict.Refused refusal.List) ≡ record { refusal = 13; value = 0; x = pos 0; y = pos 0 })
+  -- clear and not clear exchanged, the leg lost or told as clear, or a refusal told as not clear
+  pub checked : (checkReply (Checked.Judged true None) ≡ record { refusal = 0; clear = 1; bent = 0; x = pos 0; y = pos 0 })
+      × (checkReply (Checked.Judged false (Leg 2)) ≡ record { refusal = 0; clear = 0; bent = 2; x = pos 0; y = pos 0 })
+      × (checkReply (Checked.Refused refusal.List) ≡ record { refusal = 13; clear = 0; bent = 0; x = pos 0; y = pos 0 })
+      × (checkReply (Checked.Refused (refusal.BadPoint there)) ≡ record { refusal = 14; clear = 0; bent = 0; x = pos 5; y = pos 7 })

@@ -8,7 +8,7 @@ use lib.Ieee.{nan}
 use Rattle.points.specs.declared.Point.{Point}
 use Rattle.points.specs.declared.Refusal.{Refusal}
 use Rattle.points.specs.declared.Refusal.the-variants as refusal
-use Rattle.points.specs.declared.Heading.the-variants as Heading
+use Rattle.headings.specs.declared.Heading.the-variants as Heading
 use Rattle.headings.specs.Headings.{directionOf}
 use Rattle.costs.specs.declared.Measure.the-variants as Measure
 use Rattle.costs.specs.declared.Settings.{Settings}
@@ -25,6 +25,7 @@ use Rattle.grid.specs.Grids.{setOutcome}
 use Rattle.grid.specs.Questions.{componentAt, neighbourMaskAt, forcedMaskAt, prunedMaskAt, reachableFrom, unreachableFrom, neighboursReachableFrom, neighboursUnreachableFrom}
 use Rattle.paths.specs.Walks.{pathAnswer}
 use Rattle.paths.specs.declared.Written.the-variants as Written
+use Rattle.checks.specs.declared.Checked.the-variants as Checked
 use Rattle.checks.specs.Checks.{checkOf}
 use Rattle.floors.specs.Floors.{putOf}
 use Rattle.floors.specs.declared.Put.the-variants as Put
@@ -98,9 +99,9 @@ pub record Orders : Type 0 where
   -- LIST, POINT (the first), ROOM
   pub waypoints-to-path : (pathAnswer three 0 ≡ Written.Refused refusal.List) × (pathAnswer bothBad 0 ≡ Written.Refused (blamed far))
       × (pathAnswer lowLast 0 ≡ Written.Refused (blamed low)) × (pathAnswer (pos 0 ∷ pos 0 ∷ []) 0 ≡ Written.Refused refusal.Room)
-  -- STATE, LIST, POINT (the first), and only then the cells: (5,0) is outside
-  pub check-route : (checkOf broken three ≡ Verdict.Refused refusal.State) × (checkOf pair three ≡ Verdict.Refused refusal.List)
-      × (checkOf pair bothBad ≡ deniedBy far) × (checkOf pair (pos 0 ∷ pos 0 ∷ pos 5 ∷ pos 0 ∷ lowLast) ≡ deniedBy low)
+  -- STATE, LIST, POINT (the first), and only then the cells and the legs: (5,0) is outside
+  pub check-route : (checkOf broken three ≡ Checked.Refused refusal.State) × (checkOf pair three ≡ Checked.Refused refusal.List)
+      × (checkOf pair bothBad ≡ Checked.Refused (blamed far)) × (checkOf pair (pos 0 ∷ pos 0 ∷ pos 5 ∷ pos 0 ∷ lowLast) ≡ Checked.Refused (blamed low))
   -- STATE, POINT (start, then goal), ROOM
   pub write-map : (putOf 0 broken true far low ≡ Put.Refused refusal.State) × (putOf 0 pair true far low ≡ Put.Refused (blamed far))
       × (putOf 0 pair true here low ≡ Put.Refused (blamed low)) × (putOf 0 pair true here here ≡ Put.Refused refusal.Room)

@@ -1,9 +1,9 @@
 -- Lines, map texts, paths, route checks, what is printed, and the numbers for C and Rust: what the definitions that the contracts cite give at small inputs.
 -- Assumes nothing: these are statements. Each rules out the wrong answer that its line names.
 use mathlib.Core.Path.{_≡_}
-use mathlib.Core.Bool.{true, false}
+use mathlib.Core.Bool.{Bool, true, false}
 use mathlib.Core.List.{List, [], _∷_, _++_}
-use Prim.Native.Nat.{ℕ, _*_, _%_}
+use Prim.Native.Nat.{ℕ, _+_, _*_, _%_}
 use lib.Ieee.{nan}
 use lib.IntN.{ℤ, pos, negsuc}
 use lib.ListN.{length, set}
@@ -15,8 +15,6 @@ use Rattle.masks.specs.Masks.{prunedIn}
 use Rattle.grid.specs.Grids.{legalOf}
 use Rattle.grid.specs.declared.Grid.{Grid}
 use Rattle.grid.specs.declared.Outcome.the-variants as outcome
-use Rattle.grid.specs.declared.Verdict.{Verdict}
-use Rattle.grid.specs.declared.Verdict.the-variants as verdict
 use Rattle.text.specs.Grammar.{numberOf, coordOf, pairOf}
 use Rattle.text.specs.declared.Num.the-variants.{Whole, Wrong}
 use Rattle.text.specs.declared.Coord.the-variants.{At, Off}
@@ -33,6 +31,10 @@ use Rattle.pairs.specs.Pairs.{pointAt, firstBad}
 use Rattle.pairs.specs.declared.Bad.the-variants as Bad
 use Rattle.paths.specs.Walks.{pathOf, pathAnswer, pathKept}
 use Rattle.paths.specs.declared.Written.the-variants as written
+use Rattle.bends.specs.declared.Bend.the-variants.{Leg, None}
+use Rattle.bends.specs.Bends.{firstBentOf}
+use Rattle.checks.specs.declared.Checked.{Checked}
+use Rattle.checks.specs.declared.Checked.the-variants as checked
 use Rattle.checks.specs.Checks.{checkIn}
 use Rattle.answers.specs.Answers.{answerText, badText}
 use Rattle.floors.specs.Floors.{readOf, shownOf, putOf}
@@ -131,8 +133,16 @@ abbrev pub slope : List ℤ
 slope = pos 2 ∷ pos 0 ∷ pos 0 ∷ pos 1 ∷ []
 
 -- the route check on `.#.`
-abbrev pub onWall : List ℤ → Verdict
+abbrev pub onWall : List ℤ → Checked
 onWall l = checkIn 3 1 (0 ∷ 1 ∷ 0 ∷ []) l
+
+-- and on `.#.` over `...`
+abbrev pub onBench : List ℤ → Checked
+onBench l = checkIn 3 2 (0 ∷ 1 ∷ 0 ∷ 0 ∷ 0 ∷ 0 ∷ []) l
+
+-- clear or not, with no bent leg
+abbrev pub unbent : Bool → Checked
+unbent clear = checked.Judged clear None
 
 -- paths and route checks
 pub record Walks : Type 0 where
@@ -152,20 +162,25 @@ pub record Walks : Type 0 where
   pub refused : (pathAnswer [] 0 ≡ written.Refused refusal.List) × (pathAnswer (pos 1 ∷ []) 6 ≡ written.Refused refusal.List)
       × (pathAnswer (pos 0 ∷ pos 1024 ∷ []) 0 ≡ written.Refused (refusal.BadPoint (at 0 1024)))
   -- a blocked waypoint clear, or the first one looked at: to (1,0) it is not clear, from (1,0) it is
-  pub clear : (onWall (pos 0 ∷ pos 0 ∷ pos 1 ∷ pos 0 ∷ []) ≡ verdict.No) × (onWall (pos 1 ∷ pos 0 ∷ pos 2 ∷ pos 0 ∷ []) ≡ verdict.Yes)
+  pub clear : (onWall (pos 0 ∷ pos 0 ∷ pos 1 ∷ pos 0 ∷ []) ≡ unbent false) × (onWall (pos 1 ∷ pos 0 ∷ pos 2 ∷ pos 0 ∷ []) ≡ unbent true)
   -- the waypoints alone looked at: from (0,0) to (2,0) the way leads over (1,0)
-  pub between : onWall (pos 0 ∷ pos 0 ∷ pos 2 ∷ pos 0 ∷ []) ≡ verdict.No
+  pub between : onWall (pos 0 ∷ pos 0 ∷ pos 2 ∷ pos 0 ∷ []) ≡ unbent false
   -- a repeated first point looked at, or not where the walk comes back to it: (1,0), (1,0) is clear, and (1,0), (2,0), (1,0) is not
-  pub first : (onWall (pos 1 ∷ pos 0 ∷ pos 1 ∷ pos 0 ∷ []) ≡ verdict.Yes) × (onWall (pos 1 ∷ pos 0 ∷ pos 2 ∷ pos 0 ∷ pos 1 ∷ pos 0 ∷ []) ≡ verdict.No)
+  pub first : (onWall (pos 1 ∷ pos 0 ∷ pos 1 ∷ pos 0 ∷ []) ≡ unbent true) × (onWall (pos 1 ∷ pos 0 ∷ pos 2 ∷ pos 0 ∷ pos 1 ∷ pos 0 ∷ []) ≡ unbent false)
   -- a waypoint outside clear
-  pub outside : onWall (pos 0 ∷ pos 0 ∷ pos 3 ∷ pos 0 ∷ []) ≡ verdict.No
+  pub outside : onWall (pos 0 ∷ pos 0 ∷ pos 3 ∷ pos 0 ∷ []) ≡ unbent false
   -- a first point outside looked at, or what is walked outside after it not: from (-1,0) to (0,0) it is clear, from (-2,0) it is not
-  pub within : (onWall (negsuc 0 ∷ pos 0 ∷ pos 0 ∷ pos 0 ∷ []) ≡ verdict.Yes) × (onWall (negsuc 1 ∷ pos 0 ∷ pos 0 ∷ pos 0 ∷ []) ≡ verdict.No)
-  -- another walk of a bent leg: on `.#.` over `...` that from (0,0) to (2,1) goes over (1,1), and that from (2,1) to (0,0) over (1,0)
-  pub bent : (checkIn 3 2 (0 ∷ 1 ∷ 0 ∷ 0 ∷ 0 ∷ 0 ∷ []) (pos 0 ∷ pos 0 ∷ pos 2 ∷ pos 1 ∷ []) ≡ verdict.Yes) × (checkIn 3 2 (0 ∷ 1 ∷ 0 ∷ 0 ∷ 0 ∷ 0 ∷ []) (pos 2 ∷ pos 1 ∷ pos 0 ∷ pos 0 ∷ []) ≡ verdict.No)
+  pub within : (onWall (negsuc 0 ∷ pos 0 ∷ pos 0 ∷ pos 0 ∷ []) ≡ unbent true) × (onWall (negsuc 1 ∷ pos 0 ∷ pos 0 ∷ pos 0 ∷ []) ≡ unbent false)
+  -- another walk of a bent leg: that from (0,0) to (2,1) goes over (1,1), and that from (2,1) to (0,0) over (1,0)
+  pub bent : (onBench (pos 0 ∷ pos 0 ∷ pos 2 ∷ pos 1 ∷ []) ≡ checked.Judged true (Leg 1)) × (onBench (pos 2 ∷ pos 1 ∷ pos 0 ∷ pos 0 ∷ []) ≡ checked.Judged false (Leg 1))
+  -- legs counted from 0, equal points no leg or a bent one, the last bent leg for the first, or one named where there is none
+  pub legs : (firstBentOf (pos 0 ∷ pos 0 ∷ pos 0 ∷ pos 0 ∷ pos 2 ∷ pos 1 ∷ pos 0 ∷ pos 0 ∷ []) ≡ Leg 2) × (firstBentOf (pos 0 ∷ pos 0 ∷ pos 0 ∷ pos 0 ∷ []) ≡ None)
+      × (firstBentOf (pos 0 ∷ pos 0 ∷ []) ≡ None) × (firstBentOf (pos 0 ∷ pos 0 ∷ pos 3 ∷ negsuc 2 ∷ pos 3 ∷ pos 5 ∷ []) ≡ None)
+  -- the bend sought only up to the first blocked cell, or only where the list is clear: leg 1 is blocked at (1,0), and leg 2 is bent
+  pub beyond : onBench (pos 0 ∷ pos 0 ∷ pos 2 ∷ pos 0 ∷ pos 0 ∷ pos 1 ∷ []) ≡ checked.Judged false (Leg 2)
   -- another refusal of the check
-  pub unheard : (onWall [] ≡ verdict.Refused refusal.List) × (onWall (pos 0 ∷ []) ≡ verdict.Refused refusal.List)
-      × (onWall (pos 0 ∷ pos 1024 ∷ []) ≡ verdict.Refused (refusal.BadPoint (at 0 1024)))
+  pub unheard : (onWall [] ≡ checked.Refused refusal.List) × (onWall (pos 0 ∷ []) ≡ checked.Refused refusal.List)
+      × (onWall (pos 0 ∷ pos 1024 ∷ []) ≡ checked.Refused (refusal.BadPoint (at 0 1024)))
 
 -- the waypoints of document 01's map with `row=...`
 abbrev pub three : List ℤ
@@ -178,10 +193,10 @@ pub record Prints : Type 0 where
   -- result and pops mixed, or a route where there is none
   pub refused : answerText 4 0 [] false ≡ 114 ∷ 101 ∷ 115 ∷ 117 ∷ 108 ∷ 116 ∷ 61 ∷ 52 ∷ 10 ∷ 112 ∷ 111 ∷ 112 ∷ 115 ∷ 61 ∷ 48 ∷ 10 ∷ 119 ∷ 97 ∷ 121 ∷ 112 ∷ 111 ∷ 105 ∷ 110 ∷ 116 ∷ 115 ∷ 61 ∷ 48 ∷ 10 ∷ 99 ∷ 108 ∷ 101 ∷ 97 ∷ 114 ∷ 61 ∷ 48 ∷ 10 ∷ []
   -- document 01's two maps from text to text: `row=...` is found with three pops and clear, `row=.#.` refused with 4
-  pub routed : (routeText (headOn 49 clearRow) ≡ checkedText verdict.Yes 3 three) × (routeText (headOn 49 wall) ≡ answerText 4 0 [] false)
-  -- clear turned round: document 01's seven lines, and the fourth where the check says no
-  pub clear : (checkedText verdict.Yes 3 three ≡ (114 ∷ 101 ∷ 115 ∷ 117 ∷ 108 ∷ 116 ∷ 61 ∷ 48 ∷ 10 ∷ 112 ∷ 111 ∷ 112 ∷ 115 ∷ 61 ∷ 51 ∷ 10 ∷ 119 ∷ 97 ∷ 121 ∷ 112 ∷ 111 ∷ 105 ∷ 110 ∷ 116 ∷ 115 ∷ 61 ∷ 51 ∷ 10 ∷ []) ++ ((99 ∷ 108 ∷ 101 ∷ 97 ∷ 114 ∷ 61 ∷ 49 ∷ 10 ∷ []) ++ (112 ∷ 111 ∷ 105 ∷ 110 ∷ 116 ∷ 61 ∷ 48 ∷ 44 ∷ 48 ∷ 10 ∷ 112 ∷ 111 ∷ 105 ∷ 110 ∷ 116 ∷ 61 ∷ 49 ∷ 44 ∷ 48 ∷ 10 ∷ 112 ∷ 111 ∷ 105 ∷ 110 ∷ 116 ∷ 61 ∷ 50 ∷ 44 ∷ 48 ∷ 10 ∷ [])))
-      × (checkedText verdict.No 3 three ≡ (114 ∷ 101 ∷ 115 ∷ 117 ∷ 108 ∷ 116 ∷ 61 ∷ 48 ∷ 10 ∷ 112 ∷ 111 ∷ 112 ∷ 115 ∷ 61 ∷ 51 ∷ 10 ∷ 119 ∷ 97 ∷ 121 ∷ 112 ∷ 111 ∷ 105 ∷ 110 ∷ 116 ∷ 115 ∷ 61 ∷ 51 ∷ 10 ∷ []) ++ ((99 ∷ 108 ∷ 101 ∷ 97 ∷ 114 ∷ 61 ∷ 48 ∷ 10 ∷ []) ++ (112 ∷ 111 ∷ 105 ∷ 110 ∷ 116 ∷ 61 ∷ 48 ∷ 44 ∷ 48 ∷ 10 ∷ 112 ∷ 111 ∷ 105 ∷ 110 ∷ 116 ∷ 61 ∷ 49 ∷ 44 ∷ 48 ∷ 10 ∷ 112 ∷ 111 ∷ 105 ∷ 110 ∷ 116 ∷ 61 ∷ 50 ∷ 44 ∷ 48 ∷ 10 ∷ [])))
+  pub routed : (routeText (headOn 49 clearRow) ≡ checkedText (unbent true) 3 three) × (routeText (headOn 49 wall) ≡ answerText 4 0 [] false)
+  -- clear turned round, or a line for the bent leg: document 01's seven lines, and the fourth where the check says no and names leg 2
+  pub clear : (checkedText (unbent true) 3 three ≡ (114 ∷ 101 ∷ 115 ∷ 117 ∷ 108 ∷ 116 ∷ 61 ∷ 48 ∷ 10 ∷ 112 ∷ 111 ∷ 112 ∷ 115 ∷ 61 ∷ 51 ∷ 10 ∷ 119 ∷ 97 ∷ 121 ∷ 112 ∷ 111 ∷ 105 ∷ 110 ∷ 116 ∷ 115 ∷ 61 ∷ 51 ∷ 10 ∷ []) ++ ((99 ∷ 108 ∷ 101 ∷ 97 ∷ 114 ∷ 61 ∷ 49 ∷ 10 ∷ []) ++ (112 ∷ 111 ∷ 105 ∷ 110 ∷ 116 ∷ 61 ∷ 48 ∷ 44 ∷ 48 ∷ 10 ∷ 112 ∷ 111 ∷ 105 ∷ 110 ∷ 116 ∷ 61 ∷ 49 ∷ 44 ∷ 48 ∷ 10 ∷ 112 ∷ 111 ∷ 105 ∷ 110 ∷ 116 ∷ 61 ∷ 50 ∷ 44 ∷ 48 ∷ 10 ∷ [])))
+      × (checkedText (checked.Judged false (Leg 2)) 3 three ≡ (114 ∷ 101 ∷ 115 ∷ 117 ∷ 108 ∷ 116 ∷ 61 ∷ 48 ∷ 10 ∷ 112 ∷ 111 ∷ 112 ∷ 115 ∷ 61 ∷ 51 ∷ 10 ∷ 119 ∷ 97 ∷ 121 ∷ 112 ∷ 111 ∷ 105 ∷ 110 ∷ 116 ∷ 115 ∷ 61 ∷ 51 ∷ 10 ∷ []) ++ ((99 ∷ 108 ∷ 101 ∷ 97 ∷ 114 ∷ 61 ∷ 48 ∷ 10 ∷ []) ++ (112 ∷ 111 ∷ 105 ∷ 110 ∷ 116 ∷ 61 ∷ 48 ∷ 44 ∷ 48 ∷ 10 ∷ 112 ∷ 111 ∷ 105 ∷ 110 ∷ 116 ∷ 61 ∷ 49 ∷ 44 ∷ 48 ∷ 10 ∷ 112 ∷ 111 ∷ 105 ∷ 110 ∷ 116 ∷ 61 ∷ 50 ∷ 44 ∷ 48 ∷ 10 ∷ [])))
   -- the setting read into another field: other settings are a new grid's
   pub setting : (settingsFor false .diagonal ≡ false) × (settingsFor false .improved ≡ true)
 
@@ -195,6 +210,8 @@ pub record Numbers : Type 0 where
   pub blamed : (measurePacked (scaledOf true one (at 1024 0) (at 0 0)) (at 1024 0) ≡ 4294967296 * 270) × (measurePacked (scaledOf true one (at 0 0) (at 1024 0)) (at 0 0) ≡ 4294967296 * 526)
   -- a point told of where none is to blame: SETTING, 3, and SAME, 11, come as their numbers alone
   pub unblamed : (measurePacked (scaledOf true nan (at 0 0) (at 1 0)) (at 0 0) ≡ 4294967296 * 3) × (headingPacked (directionOf (at 0 0) (at 0 0)) (at 0 0) ≡ 4294967296 * 11)
+  -- another place of the direction, the bend or the steps in the number: from (0,0) to (3,3) and to (5,1) it is direction 3
+  pub heading : (headingPacked (directionOf (at 0 0) (at 3 3)) (at 0 0) ≡ 16 * 3 + 3) × (headingPacked (directionOf (at 0 0) (at 5 1)) (at 0 0) ≡ 16 * 5 + 8 + 3)
   -- a short table taken: two cells and one place
   pub short : (groundOk 2 1 (0 ∷ []) (0 ∷ 1 ∷ []) (0 ∷ 0 ∷ []) ≡ false) × (groundOk 2 1 (0 ∷ 0 ∷ []) (0 ∷ 1 ∷ []) (0 ∷ 0 ∷ []) ≡ true)
   -- room that is just enough refused: 82,100 bytes

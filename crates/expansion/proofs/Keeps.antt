@@ -6,10 +6,10 @@ use native.Mathlib.Nat.{le-refl, add-mul, one-mul}
 use native.Mathlib.Numerals.{add-one}
 use native.Mathlib.Omega.{arith}
 use lib.ListN.{length}
-use Rattle.headings.specs.Headings.{headingOf}
+use Rattle.headings.specs.Headings.{wayOf, headingOf}
+use Rattle.headings.specs.declared.Way.{Way}
+use Rattle.headings.specs.declared.Way.the-variants.{Along, Still}
 use Rattle.points.specs.declared.Point.{Point}
-use Rattle.points.specs.declared.Heading.{Heading}
-use Rattle.points.specs.declared.Heading.the-variants.{Toward, Refused}
 use Rattle.points.specs.declared.Refusal.the-variants.{Depth, Same}
 use Rattle.masks.specs.Masks.{hasBit}
 use Rattle.goals.specs.declared.Plan.{Plan}
@@ -66,16 +66,16 @@ module _ (t : Tables) (p : Plan) (from : ℕ) (P : State → Type 0) (lo hi side
         r
 
   travel-keeps : (deeper : Point → Cell → ℕ → State → Out) (m : ℕ) → Deep deeper m → (above : Point) (c : Cell) (k : ℕ) (s u : State) → Inside p c → lo ≤ k → k + (m + 1) * ((side - 1) * 99) ≤ hi → P s
-      → (g : Heading) → travelled t p (followWith t p from deeper) above c k s g ≡ ok u → P u
-  travel-keeps deeper m deep above c k s u i a b x (Toward d) r =
+      → (g : Way) → travelled t p (followWith t p from deeper) above c k s g ≡ ok u → P u
+  travel-keeps deeper m deep above c k s u i a b x (Along d) r =
       let l : 0 < priceOf (d .number) = omega arith in
       let n : priceOf (d .number) ≤ 99 = omega arith in
       each-keeps _ P (λ e v w he y z. follow-keeps deeper m deep above c i (priceOf (d .number)) k l n a b _ e v w y z) 8 0 s u (le-refl 8) x r
-  travel-keeps deeper m deep above c k s u i a b x (Refused w) r = never-no (Same above) u r
+  travel-keeps deeper m deep above c k s u i a b x Still r = never-no (Same above) u r
 
   expand-with : (deeper : Point → Cell → ℕ → State → Out) (m : ℕ) → Deep deeper m → Deep (expandWith t p (followWith t p from deeper)) (m + 1)
   unfolding expandWith
-  expand-with deeper m deep above c k s u i a b x r = travel-keeps deeper m deep above c k s u i a b x (headingOf above (spotOf (c .x) (c .y))) r
+  expand-with deeper m deep above c k s u i a b x r = travel-keeps deeper m deep above c k s u i a b x (wayOf (headingOf above (spotOf (c .x) (c .y)))) r
 
   pub deeper-keeps : (m : ℕ) → Deep (deeperAt t p from m) m
   unfolding deeperAt

@@ -3,11 +3,10 @@ use mathlib.Core.Path.{_≡_, refl, sym, _∙_}
 use mathlib.Core.Bool.{Bool, true, false}
 use Prim.Native.Nat.{ℕ, zero, suc, _+_, _-_, _%_}
 use native.Mathlib.Omega.{arith}
-use Rattle.headings.specs.Headings.{headingOf}
+use Rattle.headings.specs.Headings.{wayOf, headingOf}
+use Rattle.headings.specs.declared.Way.the-variants.{Along, Still}
 use Rattle.points.specs.declared.Point.{Point}
 use Rattle.points.specs.declared.Direction.{Direction}
-use Rattle.points.specs.declared.Refusal.{Refusal}
-use Rattle.points.specs.declared.Heading.the-variants.{Toward, Refused}
 use Rattle.points.specs.declared.Refusal.the-variants.{Depth, Same}
 use Rattle.masks.specs.Masks.{hasBit, prunedIn}
 use Rattle.goals.specs.declared.Plan.{Plan}
@@ -65,11 +64,11 @@ module _ (t : Tables) (p : Plan) (from depth : ℕ) (above : Point) (base e : �
 
 -- expanding a cell
 module _ (t : Tables) (p : Plan) (along : Point → Cell → ℕ → ℕ → ℕ → ℕ → State → Out) (above : Point) (node : Cell) (base : ℕ) (s : State) where
-  pub expand-same : (w : Refusal) → Refused w ≡ headingOf above (spotOf (node .x) (node .y)) → no (Same above) ≡ expandWith t p along above node base s
+  pub expand-same : Still ≡ wayOf (headingOf above (spotOf (node .x) (node .y))) → no (Same above) ≡ expandWith t p along above node base s
   unfolding expandWith
-  expand-same w e = rw (← e)
+  expand-same e = rw (← e)
 
-  pub expand-each : (d : Direction) (mask price : ℕ) → Toward d ≡ headingOf above (spotOf (node .x) (node .y))
+  pub expand-each : (d : Direction) (mask price : ℕ) → Along d ≡ wayOf (headingOf above (spotOf (node .x) (node .y)))
       → mask ≡ prunedIn (p .settings .diagonal) (d .number % 8) (byteAt (t .neighbours) (p .w) (node .x) (node .y)) → price ≡ priceOf (d .number)
       → each (along above node mask price base) 8 0 s ≡ expandWith t p along above node base s
   unfolding expandWith

@@ -7,10 +7,11 @@ use native.Mathlib.Omega.{arith}
 use lib.ListN.{length}
 use Rattle.points.specs.declared.Point.{Point}
 use Rattle.points.specs.declared.Direction.{Direction}
-use Rattle.points.specs.declared.Heading.{Heading}
-use Rattle.points.specs.declared.Heading.the-variants.{Toward}
 use Rattle.points.specs.declared.Refusal.{Refusal}
-use Rattle.headings.specs.Headings.{headingOf}
+use Rattle.headings.specs.declared.Heading.{Heading}
+use Rattle.headings.specs.declared.Way.{Way}
+use Rattle.headings.specs.declared.Way.the-variants.{Along}
+use Rattle.headings.specs.Headings.{wayOf, headingOf}
 use Rattle.masks.specs.Masks.{hasBit, prunedIn}
 use Rattle.goals.specs.declared.Plan.{Plan}
 use Rattle.offers.specs.declared.Mark.{Mark}
@@ -33,13 +34,13 @@ price-fits d price e = (omega (arith, e), omega (arith, e))
 
 -- how a cell was reached: its heading, the mask and the price that go with that
 pub record Faced (t : Tables) (p : Plan) (above : Point) (node : Cell) (mask price : ℕ) (d : Direction) : Type 0 where
-  pub heading : Toward d ≡ headingOf above (spotOf (node .x) (node .y))
+  pub heading : Along d ≡ wayOf (headingOf above (spotOf (node .x) (node .y)))
   pub pruned : mask ≡ prunedIn (p .settings .diagonal) (d .number % 8) (byteAt (t .neighbours) (p .w) (node .x) (node .y))
   pub priced : price ≡ priceOf (d .number)
 
-pub faced : (t : Tables) (p : Plan) (above : Point) (node : Cell) (mask price : ℕ) (d : Direction) (here : Point) (o : Heading) (around : ℕ) → here ≡ spotOf (node .x) (node .y) → o ≡ headingOf above here → o ≡ Toward d → around ≡ byteAt (t .neighbours) (p .w) (node .x) (node .y) → mask ≡ prunedIn (p .settings .diagonal) (d .number % 8) around → price ≡ priceOf (d .number) → Faced t p above node mask price d
-faced t p above node mask price d here o around a b c e f g =
-    record { heading = sym c ∙ b ∙ ap (headingOf above) a; pruned = f ∙ ap (prunedIn (p .settings .diagonal) (d .number % 8)) e; priced = g }
+pub faced : (t : Tables) (p : Plan) (above : Point) (node : Cell) (mask price : ℕ) (d : Direction) (here : Point) (o : Heading) (way : Way) (around : ℕ) → here ≡ spotOf (node .x) (node .y) → o ≡ headingOf above here → way ≡ wayOf o → way ≡ Along d → around ≡ byteAt (t .neighbours) (p .w) (node .x) (node .y) → mask ≡ prunedIn (p .settings .diagonal) (d .number % 8) around → price ≡ priceOf (d .number) → Faced t p above node mask price d
+faced t p above node mask price d here o way around a b w c e f g =
+    record { heading = sym c ∙ w ∙ ap wayOf (b ∙ ap (headingOf above) a); pruned = f ∙ ap (prunedIn (p .settings .diagonal) (d .number % 8)) e; priced = g }
 
 module _ (t : Tables) (p : Plan) (from depth : ℕ) (above : Point) (node : Cell) (mask price base : ℕ) (heading : Direction) (faces : Faced t p above node mask price heading) (number₀ place₀ parent₀ cost₀ keys₀ idx₀ : List ℕ) (n₀ : Mark) (number place parent cost keys idx : List ℕ) (n : Mark) (d : ℕ)
     (a : Rounds (t .goals) p (followAt t p from depth above node mask price base) number₀ place₀ parent₀ cost₀ keys₀ idx₀ n₀ number place parent cost keys idx n d) where

@@ -6,10 +6,10 @@ use lib.Dec.{T}
 use lib.IntN.{ℤ}
 use lib.ListN.{length, getD}
 use Rattle.points.specs.Plane.{legal}
-use Rattle.headings.specs.Headings.{headingOf}
+use Rattle.headings.specs.Headings.{wayOf, headingOf}
+use Rattle.headings.specs.declared.Way.{Way}
+use Rattle.headings.specs.declared.Way.the-variants.{Along, Still}
 use Rattle.points.specs.declared.Point.{Point}
-use Rattle.points.specs.declared.Heading.{Heading}
-use Rattle.points.specs.declared.Heading.the-variants.{Toward, Refused}
 use Rattle.points.specs.declared.Refusal.the-variants.{Depth, Same}
 use Rattle.masks.specs.Masks.{hasBit, prunedIn}
 use Rattle.goals.specs.declared.Plan.{Plan}
@@ -60,17 +60,17 @@ unfoldable pub followWith : Tables → Plan → ℕ → (Point → Cell → ℕ 
 followWith t p from deeper above node mask price base e s =
     cond (hasBit mask (e % 8)) (reached t p from (deeper above) base e s (jumpOf (t .blocked) (t .forced) (t .goals) p e node price)) (ok s)
 
--- the pruned directions in number order, first steps priced by the travel direction; SAME if the cell is its own parent
-abbrev pub travelled : Tables → Plan → (Point → Cell → ℕ → ℕ → ℕ → ℕ → State → Out) → Point → Cell → ℕ → State → Heading → Out
-travelled t p along above node base s (Toward d) =
+-- the pruned directions in number order, first steps priced by the travel direction, straight or bent; SAME if the cell is its own parent
+abbrev pub travelled : Tables → Plan → (Point → Cell → ℕ → ℕ → ℕ → ℕ → State → Out) → Point → Cell → ℕ → State → Way → Out
+travelled t p along above node base s (Along d) =
     each
     (along above node (prunedIn (p .settings .diagonal) (d .number % 8) (byteAt (t .neighbours) (p .w) (node .x) (node .y))) (priceOf (d .number)) base)
     8 0 s
-travelled t p along above node base s (Refused w) = no (Same above)
+travelled t p along above node base s Still = no (Same above)
 
 -- a cell: `along` says what following one direction does
 unfoldable pub expandWith : Tables → Plan → (Point → Cell → ℕ → ℕ → ℕ → ℕ → State → Out) → Point → Cell → ℕ → State → Out
-expandWith t p along above node base s = travelled t p along above node base s (headingOf above (spotOf (node .x) (node .y)))
+expandWith t p along above node base s = travelled t p along above node base s (wayOf (headingOf above (spotOf (node .x) (node .y))))
 
 -- what expanding again does where m more levels are allowed
 unfoldable pub deeperAt : Tables → Plan → ℕ → ℕ → Point → Cell → ℕ → State → Out

@@ -1,9 +1,9 @@
 // Expanding a cell and following one direction, which call each other: the remaining depth falls. Successors are offered to the search.
 use goals::Plan;
+use headings::Way;
 use offers::Fate;
 use offers::Mark;
 use offers::Step;
-use points::Heading;
 use points::Point;
 use points::Refusal;
 use stops::Cell;
@@ -47,7 +47,8 @@ fn expand(
     ensures { λ r. ⌜ outOf r (now (number .exit)) (now (place .exit)) (now (parent .exit)) (now (cost .exit)) (now (keys .exit)) (now (idx .exit)) ≡ expandAt (tables (now (blocked .entry)) (now (neighbours .entry)) (now (forced .entry)) (now (goals .entry))) p from depth above node base (view (now (number .entry)) (now (place .entry)) (now (parent .entry)) (now (cost .entry)) (now (keys .entry)) (now (idx .entry)) m) ⌝ }
 {
     let here = stops::spot(node.x, node.y);
-    let Heading::Toward(travel) = headings::direction_between(above, here) else {
+    let heading = headings::direction_between(above, here);
+    let Way::Along(travel) = heading.way() else {
         return Step {
             mark: m,
             fate: Fate::Refused(Refusal::Same(above)),

@@ -1,16 +1,36 @@
--- The direction from one point to another. Assumes nothing: these are definitions.
-use mathlib.Core.Bool.{Bool, true, false}
-use Prim.Native.Nat.{ℕ}
+-- The direction from one point to another, straight or bent, and how many steps lead there. Assumes nothing: these are definitions.
+use mathlib.Core.Bool.{Bool, true, false, _||_}
+use Prim.Native.Nat.{ℕ, max}
 use lib.Dec.{eqb}
-use lib.IntN.{_-ℤ_}
+use lib.IntN.{natAbs, _-ℤ_}
 use Rattle.points.specs.Plane.{legal}
 use Rattle.points.specs.Compass.{dir, signOf}
 use Rattle.points.specs.declared.Point.{Point}
 use Rattle.points.specs.declared.Sign.{Sign}
 use Rattle.points.specs.declared.Sign.the-variants.{Minus, Zero, Plus}
 use Rattle.points.specs.declared.Refusal.the-variants.{Same, BadPoint}
-use Rattle.points.specs.declared.Heading.{Heading}
-use Rattle.points.specs.declared.Heading.the-variants.{Toward, Refused}
+use Rattle.headings.specs.declared.Heading.{Heading}
+use Rattle.headings.specs.declared.Heading.the-variants.{Straight, Bent, Refused}
+use Rattle.headings.specs.declared.Way.{Way}
+use Rattle.headings.specs.declared.Way.the-variants.{Along, Still}
+
+-- the direction, straight or bent
+abbrev pub wayOf : Heading → Way
+wayOf (Straight d n) = Along d
+wayOf (Bent d n) = Along d
+wayOf (Refused r) = Still
+
+-- the length, or the larger difference; 0 where refused
+abbrev pub stepsOf : Heading → ℕ
+stepsOf (Straight d n) = n
+stepsOf (Bent d n) = n
+stepsOf (Refused r) = 0
+
+-- equal points are in line
+abbrev pub bentOf : Heading → Bool
+bentOf (Straight d n) = false
+bentOf (Bent d n) = true
+bentOf (Refused r) = false
 
 -- one of three, by a sign
 abbrev pub bySign : Sign → ℕ → ℕ → ℕ → ℕ
@@ -24,17 +44,28 @@ compassOf Minus s = bySign s 7 6 5
 compassOf Zero s = bySign s 0 8 4
 compassOf Plus s = bySign s 1 2 3
 
+-- points so far apart are in line: one difference is 0, or both are equal in size
+abbrev pub inLine : ℕ → ℕ → Bool
+inLine across down = eqb across 0 || (eqb down 0 || eqb across down)
+
+-- how many steps lead from a to b: the larger of the two differences
+abbrev pub spanOf : Point → Point → ℕ
+spanOf a b = max (natAbs (b .x -ℤ a .x)) (natAbs (b .y -ℤ a .y))
+
 abbrev pub pickHeading : Bool → Heading → Heading → Heading
 pickHeading true a b = a
 pickHeading false a b = b
 
--- that direction, or SAME, which carries the point p
-abbrev pub headingAt : Point → ℕ → Heading
-headingAt p n = pickHeading (eqb n 8) (Refused (Same p)) (Toward (dir n))
+-- the direction of a number with so many steps, straight where the points are in line; or SAME, which carries the point p
+abbrev pub headingAt : Point → ℕ → Bool → ℕ → Heading
+headingAt p n line steps = pickHeading (eqb n 8) (Refused (Same p)) (pickHeading line (Straight (dir n) steps) (Bent (dir n) steps))
 
 -- the direction from a to b: the sign of each coordinate difference, aligned or not
 abbrev pub headingOf : Point → Point → Heading
-headingOf a b = headingAt a (compassOf (signOf (b .x -ℤ a .x)) (signOf (b .y -ℤ a .y)))
+headingOf a b =
+    headingAt a (compassOf (signOf (b .x -ℤ a .x)) (signOf (b .y -ℤ a .y)))
+    (inLine (natAbs (b .x -ℤ a .x)) (natAbs (b .y -ℤ a .y)))
+    (spanOf a b)
 
 -- POINT (first, then second), then SAME
 abbrev pub directionOf : Point → Point → Heading

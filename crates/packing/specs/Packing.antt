@@ -10,9 +10,9 @@ use Rattle.points.specs.Refusals.{toldOf}
 use Rattle.points.specs.declared.Point.{Point}
 use Rattle.points.specs.declared.Refusal.{Refusal}
 use Rattle.points.specs.declared.Told.{Told}
-use Rattle.points.specs.declared.Heading.{Heading}
-use Rattle.points.specs.declared.Heading.the-variants.{Toward}
-use Rattle.points.specs.declared.Heading.the-variants as heading
+use Rattle.headings.specs.declared.Heading.{Heading}
+use Rattle.headings.specs.declared.Heading.the-variants.{Straight, Bent}
+use Rattle.headings.specs.declared.Heading.the-variants as heading
 use Rattle.costs.specs.declared.Settings.{Settings}
 use Rattle.costs.specs.declared.Measure.{Measure}
 use Rattle.costs.specs.declared.Measure.the-variants.{Cost}
@@ -29,8 +29,10 @@ pointOf x y = record { x = x; y = y }
 abbrev pub refusedWith : Told → Point → ℕ
 refusedWith t a = cond (eqb (t .number) 14) (cond (legal a) (4294967296 * (t .number + 512)) (4294967296 * (t .number + 256))) (4294967296 * t .number)
 
+-- the direction, 8 more where it is bent, and 16 times the steps
 abbrev pub headingPacked : Heading → Point → ℕ
-headingPacked (Toward d) a = d .number
+headingPacked (Straight d n) a = 16 * n + d .number
+headingPacked (Bent d n) a = 16 * n + 8 + d .number
 headingPacked (heading.Refused r) a = refusedWith (toldOf r) a
 
 abbrev pub measurePacked : Measure → Point → ℕ

@@ -7,7 +7,7 @@ ghost use Rattle.costs.specs.Scale.{scaledOf};
 ghost use Rattle.packing.specs.Packing.{flagOf, pointOf, refusedWith, headingPacked, measurePacked, refusedAs, markOf, settingsOf};
 use costs::Measure;
 use costs::Settings;
-use points::Heading;
+use headings::Heading;
 use points::Point;
 use points::Refusal;
 use points::Told;
@@ -50,13 +50,14 @@ pub fn point(x: i32, y: i32) -> Point
     Point { x, y }
 }
 
-// The direction from a to b, below 8, or a refusal.
+// The direction from a to b in the lowest three bits, 8 more where it is bent, and 16 times how many steps lead there; or a refusal.
 pub fn direction(a: Point, b: Point) -> u64
     ensures { λ r. ⌜ r ≡ headingPacked (directionOf a b) a ⌝ }
 {
     let h = headings::direction_to(a, b);
     match h {
-        Heading::Toward(d) => d.number as u64,
+        Heading::Straight(d, n) => 16 * n as u64 + d.number as u64,
+        Heading::Bent(d, n) => 16 * n as u64 + 8 + d.number as u64,
         Heading::Refused(r) => refused(r.told(), a),
     }
 }

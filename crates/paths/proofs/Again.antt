@@ -16,19 +16,19 @@ use Rattle.points.specs.declared.Point.{Point}
 use Rattle.points.specs.declared.Refusal.{Refusal}
 use Rattle.points.specs.declared.Refusal.the-variants.{List as ListBroken, Room, BadPoint}
 use Rattle.points.proofs.Halves.{sub-law, add-is, abs-is, apart}
-use Rattle.points.proofs.Signed.{parts}
 use Rattle.pairs.specs.Pairs.{Even, point, firstBad}
 use Rattle.pairs.specs.declared.Bad.{Bad}
 use Rattle.pairs.specs.declared.Bad.the-variants.{At, Nowhere}
 use Rattle.pairs.proofs.Laws.{none-bad}
-use Rattle.paths.specs.Walks.{stepBy, closerTo, nextTo, spanOf, walkOf, pathFrom, pathOf, countedOf, roomOf, pointOf, pathAnswer, pathKept}
+use Rattle.headings.specs.Headings.{spanOf}
+use Rattle.paths.specs.Walks.{stepBy, nextTo, walkOf, pathFrom, pathOf, countedOf, roomOf, pointOf, pathAnswer, pathKept}
 use Rattle.paths.specs.declared.Written.the-variants.{Points, Refused}
 use Rattle.paths.specs.declared.Counted.the-variants.{Few, Over}
-use Rattle.paths.proofs.Laws.{closer-in, both-in, walk-length}
+use Rattle.paths.proofs.Laws.{next-legal, walk-length}
 use Rattle.paths.proofs.Arrives.{after, closes, arrives}
 
 -- ---- a step leads to the next point and no further
-one-off : (a d : ℤ) → natAbs (stepBy a (signOf d) -ℤ a) ≡ min 1 (natAbs d)
+pub one-off : (a d : ℤ) → natAbs (stepBy a (signOf d) -ℤ a) ≡ min 1 (natAbs d)
 one-off a (pos zero) = omega (arith, sub-law a a, abs-is (a -ℤ a), apart (a -ℤ a))
 one-off a (pos (suc n)) = let r = a +ℤ pos 1 in omega (arith, add-is a (pos 1), sub-law r a, abs-is (r -ℤ a), apart (r -ℤ a))
 one-off a (negsuc n) = let r = a -ℤ pos 1 in omega (arith, sub-law a (pos 1), sub-law r a, abs-is (r -ℤ a), apart (r -ℤ a))
@@ -65,12 +65,6 @@ again (x ∷ []) = refl
 again (x ∷ y ∷ l) = ap (λ (m : List ℤ). x ∷ y ∷ m) (from-again (point x y) l)
 
 -- ---- a walk between points in range stays in range
-next-legal : (p q : Point) → T (legal p) → T (legal q) → T (legal (nextTo p q))
-next-legal p q s t =
-    let a = parts p s in
-    let b = parts q t in
-    both-in (closerTo (p .x) (q .x)) (closerTo (p .y) (q .y)) (closer-in (p .x) (q .x) (a .0) (b .0)) (closer-in (p .y) (q .y) (a .1) (b .1))
-
 walk-legal : (n : ℕ) (p q : Point) (m : List ℤ) → T (legal p) → T (legal q) → firstBad (walkOf n p q ++ m) ≡ firstBad m
 unfolding walkOf firstBad
 walk-legal zero p q m s t = refl

@@ -6,7 +6,8 @@ use lib.IntN.{ℤ, pos, natAbs, _-ℤ_}
 use lib.ListN.{getD}
 use Rattle.points.specs.declared.Point.{Point}
 use Rattle.points.proofs.Halves.{nearer, same, sub-law, abs-is, apart}
-use Rattle.paths.specs.Walks.{closerTo, nextTo, spanOf, walkOf}
+use Rattle.headings.specs.Headings.{spanOf}
+use Rattle.paths.specs.Walks.{closerTo, nextTo, walkOf}
 use Rattle.paths.proofs.Laws.{step-is}
 
 -- the point after n steps

@@ -17,10 +17,11 @@ use Rattle.points.specs.Plane.{inRange, legal}
 use Rattle.points.specs.Compass.{signOf}
 use Rattle.points.specs.declared.Point.{Point}
 use Rattle.points.specs.declared.Refusal.the-variants.{List as ListBroken, BadPoint}
-use Rattle.points.proofs.Signed.{in-halves}
+use Rattle.points.proofs.Signed.{in-halves, parts}
 use Rattle.points.proofs.Halves.{signZ, step-in, mag-of, sub-law, add-is, apart}
 use Rattle.pairs.specs.Pairs.{firstBad, point, pointAt}
-use Rattle.paths.specs.Walks.{stepBy, closerTo, nextTo, spanOf, walkOf, pathFrom, pathOf, countedOf, pathAnswer, pointOf, roomOf}
+use Rattle.headings.specs.Headings.{spanOf}
+use Rattle.paths.specs.Walks.{stepBy, closerTo, nextTo, walkOf, pathFrom, pathOf, countedOf, pathAnswer, pointOf, roomOf}
 use Rattle.pairs.specs.declared.Bad.{Bad}
 use Rattle.pairs.specs.declared.Bad.the-variants.{At, Nowhere}
 use Rattle.pairs.proofs.Laws.{two-more}
@@ -54,8 +55,14 @@ step-is a (negsuc n) = refl
 pub closer-in : (a b : ℤ) → T (inRange a) → T (inRange b) → T (inRange (closerTo a b))
 closer-in a b p q = subst (λ (z : ℤ). T (inRange z)) (step-is a (b -ℤ a)) (in-of (a +ℤ signZ (b -ℤ a)) (step-in a b (in-mag a p) (in-mag b q)))
 
-pub both-in : (x y : ℤ) → T (inRange x) → T (inRange y) → T (legal (point x y))
+both-in : (x y : ℤ) → T (inRange x) → T (inRange y) → T (legal (point x y))
 both-in x y s t = and-i (inRange x) (inRange y) s t
+
+pub next-legal : (p q : Point) → T (legal p) → T (legal q) → T (legal (nextTo p q))
+next-legal p q s t =
+    let a = parts p s in
+    let b = parts q t in
+    both-in (closerTo (p .x) (q .x)) (closerTo (p .y) (q .y)) (closer-in (p .x) (q .x) (a .0) (b .0)) (closer-in (p .y) (q .y) (a .1) (b .1))
 
 -- ---- a walk
 pub walk-length : (n : ℕ) (p q : Point) → length (walkOf n p q) ≡ 2 * n
@@ -137,12 +144,11 @@ module _ (l : List ℤ) (i : ℕ) (p r : Point) (e : r ≡ pointAt l i) where
   pub length-here : i + 1 < length l → length (pathFrom p (drop i l)) ≡ 2 * spanOf p r + length (pathFrom r (drop (i + 2) l))
   length-here h = length-more l i p h ∙ ap (λ (q : Point). 2 * spanOf p q + length (pathFrom q (drop (i + 2) l))) (sym e)
 
-  -- a turn of the path's loop: the walk to r is stored
-  pub stores-here : (out new : List ℤ) (at n : ℕ) → n ≡ spanOf p r → new ≡ sets out at (walkOf n p r) → i + 1 < length l
-      → sets new (at + 2 * n) (pathFrom r (drop (i + 2) l)) ≡ sets out at (pathFrom p (drop i l))
-  stores-here out new at n d f h =
-      (λ j. sets (f j) (at + 2 * n) (pathFrom r (drop (i + 2) l)))
-      ∙ (λ j. sets (sets out at (walkOf (d j) p r)) (at + 2 * d j) (pathFrom r (drop (i + 2) l)))
+  -- a turn of the path's loop: the walk to r is stored, and k is the place after it
+  pub stores-here : (out new : List ℤ) (at k : ℕ) → k ≡ at + 2 * spanOf p r → new ≡ sets out at (walkOf (spanOf p r) p r) → i + 1 < length l
+      → sets new k (pathFrom r (drop (i + 2) l)) ≡ sets out at (pathFrom p (drop i l))
+  stores-here out new at k d f h =
+      (λ j. sets (f j) (d j) (pathFrom r (drop (i + 2) l)))
       ∙ (λ j. sets (sets out at (walkOf (spanOf p (e j)) p (e j))) (at + 2 * spanOf p (e j)) (pathFrom (e j) (drop (i + 2) l)))
       ∙ sym (stores-more out at l i p h)
 

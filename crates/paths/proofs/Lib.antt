@@ -1,3 +1,4 @@
 pub mod Laws
+pub mod Legs
 pub mod Arrives
 pub mod Again

@@ -1,16 +1,19 @@
 -- `waypoints_to_path`: the walk by sign to each waypoint. A list of points is a list of numbers, x and y in turn. Assumes nothing: these are definitions.
 use mathlib.Core.Bool.{cond}
 use mathlib.Core.List.{List, [], _∷_, _++_}
-use Prim.Native.Nat.{ℕ, zero, suc, _+_, _*_, _/_, _%_, max}
+use Prim.Native.Nat.{ℕ, zero, suc, _+_, _*_, _/_, _%_}
 use lib.Dec.{leb, eqb}
-use lib.IntN.{ℤ, pos, natAbs, _+ℤ_, _-ℤ_}
+use lib.IntN.{ℤ, pos, _+ℤ_, _-ℤ_}
 use lib.ListN.{length}
 use lib.Seq.{sets}
-use Rattle.points.specs.Compass.{signOf}
+use Rattle.points.specs.Compass.{signOf, moved}
 use Rattle.points.specs.declared.Point.{Point}
 use Rattle.points.specs.declared.Sign.{Sign}
 use Rattle.points.specs.declared.Sign.the-variants.{Minus, Zero, Plus}
 use Rattle.points.specs.declared.Refusal.the-variants.{List as ListBroken, Room, BadPoint}
+use Rattle.headings.specs.declared.Heading.{Heading}
+use Rattle.headings.specs.declared.Heading.the-variants.{Straight, Bent, Refused as NoHeading}
+use Rattle.headings.specs.Headings.{spanOf}
 use Rattle.pairs.specs.Pairs.{point, firstBad}
 use Rattle.pairs.specs.declared.Bad.{Bad}
 use Rattle.pairs.specs.declared.Bad.the-variants.{At, Nowhere}
@@ -32,9 +35,11 @@ closerTo a b = stepBy a (signOf (b -ℤ a))
 abbrev pub nextTo : Point → Point → Point
 nextTo p q = record { x = closerTo (p .x) (q .x); y = closerTo (p .y) (q .y) }
 
--- how many steps lead from p to q: the longer of the two differences
-abbrev pub spanOf : Point → Point → ℕ
-spanOf p q = max (natAbs (q .x -ℤ p .x)) (natAbs (q .y -ℤ p .y))
+-- one step on, from a point of a leg to q whose heading is h: a straight leg repeats the step of its direction
+abbrev pub onwardTo : Heading → Point → Point → Point
+onwardTo (Straight d n) p q = moved p (d .number)
+onwardTo (Bent d n) p q = nextTo p q
+onwardTo (NoHeading r) p q = p
 
 -- the points of n steps from p towards q
 unfoldable pub walkOf : ℕ → Point → Point → List ℤ

@@ -5,9 +5,11 @@ ghost use lib.Dec.{T};
 ghost use lib.ListN.{length};
 ghost use lib.Seq.{sets};
 ghost use Rattle.points.specs.Plane.{inRange, legal};
+ghost use Rattle.headings.specs.Headings.{spanOf};
 ghost use Rattle.pairs.specs.Pairs.{Even, firstBad};
 ghost use Rattle.pairs.specs.declared.Bad.the-variants.{Nowhere};
-ghost use Rattle.paths.specs.Walks.{closerTo, nextTo, spanOf, walkOf, pathOf, countedOf, pathAnswer, pathKept};
+ghost use Rattle.paths.specs.Walks.{closerTo, nextTo, onwardTo, walkOf, pathOf, countedOf, pathAnswer, pathKept};
+use headings::Heading;
 use pairs::Bad;
 use points::Point;
 use points::Refusal;
@@ -37,23 +39,10 @@ fn closer(a: i32, b: i32) -> i32
     }
 }
 
-// How many steps lead from p to q: the longer of the two differences.
-pub fn span(p: Point, q: Point) -> usize
+// One step from p towards q, by the sign of each difference.
+fn next(p: Point, q: Point) -> Point
     requires { ⌜ T (legal p) × T (legal q) ⌝ }
-    ensures { λ r. ⌜ (r ≡ spanOf p q) × (r ≤ 2047) ⌝ }
-{
-    let across = points::gap(p.x, q.x) as usize;
-    let down = points::gap(p.y, q.y) as usize;
-    if across < down {
-        return down;
-    }
-    across
-}
-
-// One step from p towards q.
-pub fn next(p: Point, q: Point) -> Point
-    requires { ⌜ T (legal p) × T (legal q) ⌝ }
-    ensures { λ r. ⌜ (r ≡ nextTo p q) × T (legal r) ⌝ }
+    ensures { λ r. ⌜ r ≡ nextTo p q ⌝ }
 {
     Point {
         x: closer(p.x, q.x),
@@ -61,20 +50,34 @@ pub fn next(p: Point, q: Point) -> Point
     }
 }
 
-// The steps from p to q, written at a place.
-fn put_walk(out: &mut [i32], at: usize, p: Point, q: Point, steps: usize)
-    requires { ⌜ T (legal p) × T (legal q) × (at + 2 * steps ≤ length (now out)) ⌝ }
-    ensures { λ _. ⌜ now (out .exit) ≡ sets (now (out .entry)) at (walkOf steps p q) ⌝ }
+// One step on from `here`, a point of a leg to q with this heading: a straight leg repeats the step of its direction, a bent one steps by sign.
+pub fn onward(heading: Heading, here: Point, q: Point) -> Point
+    requires { ⌜ T (legal here) × T (legal q) ⌝ }
+    ensures { λ r. ⌜ r ≡ onwardTo heading here q ⌝ }
 {
+    match heading {
+        Heading::Straight(d, _) => here.stepped(d),
+        Heading::Bent(_, _) => next(here, q),
+        Heading::Refused(_) => here,
+    }
+}
+
+// The steps from p to q, written at a place; the place after them.
+fn put_walk(out: &mut [i32], at: usize, p: Point, q: Point) -> usize
+    requires { ⌜ T (legal p) × T (legal q) × (at + 2 * spanOf p q ≤ length (now out)) ⌝ }
+    ensures { λ r. ⌜ (r ≡ at + 2 * spanOf p q) × (now (out .exit) ≡ sets (now (out .entry)) at (walkOf (spanOf p q) p q)) ⌝ }
+{
+    let heading = headings::direction_between(p, q);
+    let mut left = heading.steps();
     let mut here = p;
     let mut k = at;
-    let mut left = steps;
     while 0 < left {
-        here = next(here, q);
+        here = onward(heading, here, q);
         pairs::put(out, k, here);
         k += 2;
         left -= 1;
     }
+    k
 }
 
 // How many points the path has, if the room holds them.
@@ -90,7 +93,8 @@ fn count(list: &[i32], room: usize) -> Counted
     let mut i = 2;
     while i < list.len() {
         let q = pairs::point_at(list, i);
-        let steps = span(p, q);
+        let heading = headings::direction_between(p, q);
+        let steps = heading.steps();
         if left < steps {
             return Counted::Over;
         }
@@ -112,9 +116,7 @@ fn put_path(list: &[i32], out: &mut [i32])
     let mut i = 2;
     while i < list.len() {
         let q = pairs::point_at(list, i);
-        let steps = span(p, q);
-        put_walk(out, at, p, q, steps);
-        at += 2 * steps;
+        at = put_walk(out, at, p, q);
         p = q;
         i += 2;
     }

@@ -50,12 +50,6 @@ pub struct Told {
     pub point: Point,
 }
 
-// The direction from one point to another, or a refusal.
-pub enum Heading {
-    Toward(Direction),
-    Refused(Refusal),
-}
-
 // A diagonal's cardinal along x and its cardinal along y; a cardinal is whole.
 pub enum Parts {
     Pair(Direction, Direction),

@@ -3,8 +3,8 @@ ghost use Prim.Native.Nat.{_<_, _≤_};
 use super::answers;
 use super::answers::Tally;
 use costs::Measure;
+use headings::Heading;
 use points::Direction;
-use points::Heading;
 use points::Parts;
 use points::Point;
 use points::Told;
@@ -120,7 +120,8 @@ fn refused(t: Told, a: Point, b: Point) -> u32 {
 fn heading(a: Point, b: Point) -> u32 {
     let h = headings::direction_to(a, b);
     match h {
-        Heading::Toward(d) => d.number as u32,
+        Heading::Straight(d, n) => 16 * n as u32 + d.number as u32,
+        Heading::Bent(d, n) => 16 * n as u32 + 8 + d.number as u32,
         Heading::Refused(r) => refused(r.told(), a, b),
     }
 }

@@ -1,24 +1,45 @@
 // Blocks of route checks. Their form stands at the head of oracle/tools/src/bin/checks.rs.
 use super::answers;
 use super::grids;
+use bends::Bend;
+use checks::Checked;
 use grid::Grid;
-use grid::Verdict;
 
-// 0 where the verdict is the one that s begins with: its result, the point that POINT carries, and 1 if clear.
-fn differs(v: Verdict, s: &[u8]) -> u64 {
-    match v {
-        Verdict::Yes => answers::byte_wrong(0, s, 0) | answers::byte_wrong(1, s, 5),
-        Verdict::No => answers::byte_wrong(0, s, 0) | answers::byte_wrong(0, s, 5),
-        Verdict::Refused(r) => answers::refused_wrong(r, s) | answers::byte_wrong(0, s, 5),
+// The number of a leg, 0 for none.
+fn leg(b: Bend) -> u64 {
+    match b {
+        Bend::Leg(k) => k as u64,
+        Bend::None => 0,
     }
 }
 
-// The waypoints and the verdict, with which s begins.
+// 0 where the first bent leg is the one that s names.
+fn leg_wrong(b: Bend, s: &[u8]) -> u64 {
+    answers::unequal(leg(b), lists::u8_at(s, 6) as u64)
+}
+
+// 0 where the answer is the one that s begins with: its result, the point that POINT carries, 1 if clear, and the first bent leg or 0.
+fn differs(c: Checked, s: &[u8]) -> u64 {
+    match c {
+        Checked::Judged(clear, b) => {
+            answers::byte_wrong(0, s, 0)
+                | answers::byte_wrong(clear as u8, s, 5)
+                | leg_wrong(b, s)
+        }
+        Checked::Refused(r) => {
+            answers::refused_wrong(r, s)
+                | answers::byte_wrong(0, s, 5)
+                | leg_wrong(Bend::None, s)
+        }
+    }
+}
+
+// The waypoints and the answer, with which s begins.
 fn judged(g: Grid, s: &[u8]) -> u64 {
     let count = answers::count_at(s, 0, 64);
     let list = answers::numbers(s, count);
-    let v = checks::check_route(g, &list[..count]);
-    differs(v, answers::rest(s, 2 + 2 * count))
+    let c = checks::check_route(g, &list[..count]);
+    differs(c, answers::rest(s, 2 + 2 * count))
 }
 
 // The check reads no table but that of the blocked cells.

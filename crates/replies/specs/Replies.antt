@@ -7,12 +7,16 @@ use Rattle.points.specs.declared.Told.{Told}
 use Rattle.finder.specs.declared.Answer.{Answer}
 use Rattle.finder.specs.declared.Outcome.{Outcome}
 use Rattle.finder.specs.declared.Outcome.the-variants.{Found, Refused}
-use Rattle.grid.specs.declared.Verdict.{Verdict}
-use Rattle.grid.specs.declared.Verdict.the-variants.{Yes, No, Refused as RefusedCheck}
+use Rattle.bends.specs.declared.Bend.{Bend}
+use Rattle.bends.specs.declared.Bend.the-variants.{Leg, None}
+use Rattle.checks.specs.declared.Checked.{Checked}
+use Rattle.checks.specs.declared.Checked.the-variants.{Judged, Refused as RefusedCheck}
 use Rattle.paths.specs.declared.Written.{Written}
 use Rattle.paths.specs.declared.Written.the-variants.{Points, Refused as RefusedPath}
+use Rattle.packing.specs.Packing.{markOf}
 use Rattle.replies.specs.declared.Route.{Route}
 use Rattle.replies.specs.declared.Reply.{Reply}
+use Rattle.replies.specs.declared.Check.{Check}
 
 -- a refusal after n pops as numbers
 abbrev pub routeTold : ℕ → Told → Route
@@ -38,8 +42,16 @@ abbrev pub writtenReply : Written → Reply
 writtenReply (Points n) = valueReply n
 writtenReply (RefusedPath r) = toldReply (toldOf r)
 
--- yes and no
-abbrev pub verdictReply : Verdict → Reply
-verdictReply Yes = valueReply 1
-verdictReply No = valueReply 0
-verdictReply (RefusedCheck r) = toldReply (toldOf r)
+-- a leg's number, 0 for none
+abbrev pub legOf : Bend → ℕ
+legOf (Leg k) = k
+legOf None = 0
+
+-- a refusal of the route check as numbers
+abbrev pub checkTold : Told → Check
+checkTold t = record { refusal = t .number; clear = 0; bent = 0; x = t .point .x; y = t .point .y }
+
+-- the route check's answer as numbers
+abbrev pub checkReply : Checked → Check
+checkReply (Judged clear bend) = record { refusal = 0; clear = markOf clear; bent = legOf bend; x = pos 0; y = pos 0 }
+checkReply (RefusedCheck r) = checkTold (toldOf r)

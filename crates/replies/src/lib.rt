@@ -1,10 +1,11 @@
 // Answers of several numbers for C and Rust: what a search and a call on a list tell.
 ghost use mathlib.Core.Path.{_≡_};
 ghost use Rattle.points.specs.Refusals.{toldOf};
-ghost use Rattle.replies.specs.Replies.{routeOf, valueReply, toldReply, writtenReply, verdictReply};
+ghost use Rattle.replies.specs.Replies.{routeOf, valueReply, toldReply, writtenReply, legOf, checkReply};
+use bends::Bend;
+use checks::Checked;
 use finder::Answer;
 use finder::Outcome;
-use grid::Verdict;
 use paths::Written;
 use points::Refusal;
 
@@ -71,7 +72,7 @@ fn value(n: u64) -> Reply
 }
 
 // A refusal, with the point that it concerns.
-pub fn refused(w: Refusal) -> Reply
+fn refused(w: Refusal) -> Reply
     ensures { λ r. ⌜ r ≡ toldReply (toldOf w) ⌝ }
 {
     let t = w.told();
@@ -94,13 +95,48 @@ pub fn written(w: Written) -> Reply
     }
 }
 
-// Yes and no, 1 and 0, or a refusal.
-pub fn judged(v: Verdict) -> Reply
-    ensures { λ r. ⌜ r ≡ verdictReply v ⌝ }
+// What the route check answers, as numbers: its refusal or 0, 1 where clear, the first bent leg or 0, and the point that a refusal concerns.
+#[repr(C)]
+pub struct Check {
+    pub refusal: u64,
+    pub clear: u64,
+    pub bent: u64,
+    pub x: i32,
+    pub y: i32,
+}
+
+// A leg's number, 0 for none.
+fn leg(b: Bend) -> u64
+    ensures { λ r. ⌜ r ≡ legOf b ⌝ }
 {
-    match v {
-        Verdict::Yes => value(1),
-        Verdict::No => value(0),
-        Verdict::Refused(r) => refused(r),
+    match b {
+        Bend::Leg(k) => k as u64,
+        Bend::None => 0,
+    }
+}
+
+// The route check's answer as numbers.
+pub fn checked(c: Checked) -> Check
+    ensures { λ r. ⌜ r ≡ checkReply c ⌝ }
+{
+    match c {
+        Checked::Judged(clear, bend) => Check {
+            refusal: 0,
+            clear: packing::mark(clear),
+            bent: leg(bend),
+            x: 0,
+            y: 0,
+        },
+        Checked::Refused(w) => {
+            let t = w.told();
+            let q = t.point;
+            Check {
+                refusal: t.number as u64,
+                clear: 0,
+                bent: 0,
+                x: q.x,
+                y: q.y,
+            }
+        }
     }
 }

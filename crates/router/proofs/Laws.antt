@@ -29,8 +29,6 @@ use Rattle.waypoints.specs.Waypoints.{groundOf}
 use Rattle.grid.specs.Grids.{legalOf}
 use Rattle.grid.specs.declared.Grid.{Grid}
 use Rattle.grid.specs.declared.Outcome.the-variants.{Done, Refused as RefusedMap}
-use Rattle.grid.specs.declared.Verdict.{Verdict}
-use Rattle.grid.specs.declared.Verdict.the-variants.{Yes, No, Refused as RefusedCheck}
 use Rattle.pairs.specs.Pairs.{Even, firstBad}
 use Rattle.pairs.specs.declared.Bad.{Bad as BadPoints}
 use Rattle.pairs.specs.declared.Bad.the-variants.{At, Nowhere}
@@ -49,6 +47,10 @@ use Rattle.maps.specs.declared.Head.the-variants.{Of, Bad as BadHead}
 use Rattle.maps.specs.declared.Reading.{Reading}
 use Rattle.maps.specs.declared.Reading.the-variants.{Map, Bad}
 use Rattle.maps.proofs.Laws.{HBounded, head-fair, side-most}
+use Rattle.checks.specs.declared.Checked.{Checked}
+use Rattle.checks.specs.declared.Checked.the-variants.{Judged, Refused as RefusedCheck}
+use Rattle.bends.specs.declared.Bend.{Bend}
+use Rattle.bends.specs.Bends.{firstBentOf}
 use Rattle.checks.specs.Checks.{clearOf, judged, checkIn, checkOf}
 use Rattle.floors.specs.Floors.{readAs, readOf}
 use lib.Seq.{sets}
@@ -121,26 +123,24 @@ few-points n (found i k m s) = by (ltb (n / 2) (length (routeIn s i))) (ltb-fals
 few-points n (refused w m) = tt
 
 -- ---- the points of a checked route are legal
-abbrev pub Fine : List ℤ → Verdict → Type 0
-Fine l Yes = Even (length l) × (firstBad l ≡ Nowhere)
-Fine l No = Even (length l) × (firstBad l ≡ Nowhere)
+abbrev pub Fine : List ℤ → Checked → Type 0
+Fine l (Judged clear bend) = Even (length l) × (firstBad l ≡ Nowhere)
 Fine l (RefusedCheck r) = Unit {0}
 
 pub checked-fine : (g : Grid) (l : List ℤ) → Fine l (checkOf g l)
 unfolding checkOf checkIn
-checked-fine g l = by (legalOf g) (eqb (length l) 0) (eqb (length l % 2) 1) even (firstBad l) (λ e. e) (clearOf (g .width) (g .height) (g .blocked) l)
+checked-fine g l = by (legalOf g) (eqb (length l) 0) (eqb (length l % 2) 1) even (firstBad l) (λ e. e) (clearOf (g .width) (g .height) (g .blocked) l) (firstBentOf l)
   where
     even : eqb (length l % 2) 1 ≡ false → length l % 2 ≡ 0
     even e = let no-odd : length l % 2 ≡ 1 → ⊥ = λ h. true≢false (sym (eq-eqb (length l % 2) 1 h) ∙ e) in omega (arith, no-odd)
 
-    by : (a b c : Bool) → (c ≡ false → length l % 2 ≡ 0) → (f : BadPoints) → (f ≡ Nowhere → firstBad l ≡ Nowhere) → (t : Bool)
-        → Fine l (cond a (cond b (RefusedCheck refusal.List) (cond c (RefusedCheck refusal.List) (judged f t))) (RefusedCheck refusal.State))
-    by true false false p Nowhere q true = (p refl, q refl)
-    by true false false p Nowhere q false = (p refl, q refl)
-    by true false false p (At x) q t = tt
-    by true false true p f q t = tt
-    by true true c p f q t = tt
-    by false b c p f q t = tt
+    by : (a b c : Bool) → (c ≡ false → length l % 2 ≡ 0) → (f : BadPoints) → (f ≡ Nowhere → firstBad l ≡ Nowhere) → (t : Bool) (s : Bend)
+        → Fine l (cond a (cond b (RefusedCheck refusal.List) (cond c (RefusedCheck refusal.List) (judged f t s))) (RefusedCheck refusal.State))
+    by true false false p Nowhere q t s = (p refl, q refl)
+    by true false false p (At x) q t s = tt
+    by true false true p f q t s = tt
+    by true true c p f q t s = tt
+    by false b c p f q t s = tt
 
 -- ---- a refusal's number, and the line of a bad text
 pub told-low : (r : Refusal) → toldOf r .number ≤ 14

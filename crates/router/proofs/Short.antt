@@ -20,8 +20,8 @@ use Rattle.grid.specs.Grids.{rebuildOutcome}
 use Rattle.grid.specs.declared.Grid.{Grid}
 use Rattle.grid.specs.declared.Outcome.{Outcome as Change}
 use Rattle.grid.specs.declared.Outcome.the-variants.{Done, Refused as RefusedMap}
-use Rattle.grid.specs.declared.Verdict.{Verdict}
-use Rattle.grid.specs.declared.Verdict.the-variants.{Yes, No, Refused as RefusedCheck}
+use Rattle.checks.specs.declared.Checked.{Checked}
+use Rattle.checks.specs.declared.Checked.the-variants.{Judged, Refused as RefusedCheck}
 use Rattle.printing.specs.Render.{numberText, pointText}
 use Rattle.printing.proofs.Written.{number-text-length, point-text-length}
 use Rattle.pairs.specs.Pairs.{point}
@@ -58,9 +58,8 @@ answer-short n pops l clear =
       length-append d e,
     )
 
-checked-short : (v : Verdict) (pops : ℕ) (l : List ℤ) → length (checkedText v pops l) ≤ 100 + 10 * length l
-checked-short Yes pops l = answer-short 0 pops l true
-checked-short No pops l = answer-short 0 pops l false
+checked-short : (c : Checked) (pops : ℕ) (l : List ℤ) → length (checkedText c pops l) ≤ 100 + 10 * length l
+checked-short (Judged clear bend) pops l = answer-short 0 pops l clear
 checked-short (RefusedCheck r) pops l = omega (arith, answer-short (toldOf r .number) pops [] false)
 
 found-short : (g : Grid) (l : List ℤ) (pops : ℕ) (o : Outcome) → length (foundText g l pops o) ≤ 100 + 10 * length l

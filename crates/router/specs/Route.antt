@@ -20,10 +20,10 @@ use Rattle.grid.specs.Grids.{rebuildOutcome}
 use Rattle.grid.specs.declared.Grid.{Grid}
 use Rattle.grid.specs.declared.Outcome.{Outcome as Change}
 use Rattle.grid.specs.declared.Outcome.the-variants.{Done, Refused as RefusedMap}
-use Rattle.grid.specs.declared.Verdict.{Verdict}
-use Rattle.grid.specs.declared.Verdict.the-variants.{Yes, No, Refused as RefusedCheck}
 use Rattle.answers.specs.Answers.{answerText, badText}
 use Rattle.floors.specs.declared.MapRead.{MapRead}
+use Rattle.checks.specs.declared.Checked.{Checked}
+use Rattle.checks.specs.declared.Checked.the-variants.{Judged, Refused as RefusedCheck}
 use Rattle.checks.specs.Checks.{checkOf}
 use Rattle.floors.specs.Floors.{readOf}
 
@@ -50,10 +50,9 @@ exactOf g diagonal start goal = singleOf g (settingsFor diagonal) room false sta
 abbrev pub refusedText : Refusal → ℕ → List ℕ
 refusedText r pops = answerText (toldOf r .number) pops [] false
 
--- a route is printed with its check
-abbrev pub checkedText : Verdict → ℕ → List ℤ → List ℕ
-checkedText Yes pops l = answerText 0 pops l true
-checkedText No pops l = answerText 0 pops l false
+-- a route is printed with its check: whether it is clear
+abbrev pub checkedText : Checked → ℕ → List ℤ → List ℕ
+checkedText (Judged clear bend) pops l = answerText 0 pops l clear
 checkedText (RefusedCheck r) pops l = refusedText r pops
 
 abbrev pub foundText : Grid → List ℤ → ℕ → Outcome → List ℕ

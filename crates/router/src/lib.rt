@@ -8,11 +8,11 @@ ghost use Rattle.finder.specs.Find.{answerOf, outAfter};
 ghost use Rattle.waypoints.specs.Waypoints.{singlePlan};
 ghost use Rattle.checks.specs.Checks.{checkOf};
 ghost use Rattle.router.specs.Route.{settingsFor, exactOf, refusedText, checkedText, outcomeText, Within, mostPrint, routeText};
+use checks::Checked;
 use costs::Settings;
 use finder::Answer;
 use finder::Outcome;
 use grid::Grid;
-use grid::Verdict;
 use points::Point;
 use points::Refusal;
 
@@ -62,11 +62,10 @@ fn put_found(buf: &mut [u8], list: &[i32], g: Grid, pops: usize) -> usize
     requires { ⌜ (pops < 100000) × (length (now list) < 100000) × (100 + 10 * length (now list) ≤ length (now buf)) ⌝ }
     ensures { λ n. ⌜ (n ≡ length (checkedText (checkOf g (now (list .entry))) pops (now (list .entry)))) × (now (buf .exit) ≡ sets (now (buf .entry)) 0 (checkedText (checkOf g (now (list .entry))) pops (now (list .entry)))) ⌝ }
 {
-    let v = checks::check_route(g, list);
-    match v {
-        Verdict::Yes => answers::put_answer(buf, 0, pops as u32, list, true),
-        Verdict::No => answers::put_answer(buf, 0, pops as u32, list, false),
-        Verdict::Refused(r) => put_refused(buf, r, pops),
+    let checked = checks::check_route(g, list);
+    match checked {
+        Checked::Judged(clear, _) => answers::put_answer(buf, 0, pops as u32, list, clear),
+        Checked::Refused(r) => put_refused(buf, r, pops),
     }
 }
 

@@ -4,10 +4,10 @@ use mathlib.Core.Bool.{Bool, true, false, cond}
 use Prim.Native.Nat.{ℕ, zero, suc, _+_, _-_, _*_, _%_, _<_, _≤_}
 use native.Mathlib.Omega.{arith}
 use lib.ListN.{length, getD}
-use Rattle.headings.specs.Headings.{headingOf}
+use Rattle.headings.specs.Headings.{wayOf, headingOf}
+use Rattle.headings.specs.declared.Way.{Way}
+use Rattle.headings.specs.declared.Way.the-variants.{Along, Still}
 use Rattle.points.specs.declared.Point.{Point}
-use Rattle.points.specs.declared.Heading.{Heading}
-use Rattle.points.specs.declared.Heading.the-variants.{Toward, Refused}
 use Rattle.points.specs.declared.Refusal.the-variants.{Depth, Same}
 use Rattle.masks.specs.Masks.{hasBit}
 use Rattle.goals.specs.declared.Plan.{Plan}
@@ -73,13 +73,13 @@ module _ (t : Tables) (p : Plan) (from : ℕ) (Q : Out → Type 0) (depth : Q (n
           by-cond Q (hasBit mask (e % 8)) (reached t p from (deeper above) base e s (jumpOf (t .blocked) (t .forced) (t .goals) p e node (priceOf d))) (ok s)
           (reached-made e s (jumpOf (t .blocked) (t .forced) (t .goals) p e node (priceOf d)) refl q) q
 
-    travel-made : (above : Point) (c : Cell) (k : ℕ) (s : State) → Gives m c k → Q (ok s) → (g : Heading) → Q (travelled t p (followWith t p from deeper) above c k s g)
-    travel-made above c k s give q (Toward d) = by-each Q _ (λ e u x. follow-made above c k (d .number) give _ e u x) 8 0 s q
-    travel-made above c k s give q (Refused w) = same above
+    travel-made : (above : Point) (c : Cell) (k : ℕ) (s : State) → Gives m c k → Q (ok s) → (g : Way) → Q (travelled t p (followWith t p from deeper) above c k s g)
+    travel-made above c k s give q (Along d) = by-each Q _ (λ e u x. follow-made above c k (d .number) give _ e u x) 8 0 s q
+    travel-made above c k s give q Still = same above
 
     expand-made : (above : Point) (c : Cell) (k : ℕ) (s : State) → Gives m c k → Q (ok s) → Q (expandWith t p (followWith t p from deeper) above c k s)
     unfolding expandWith
-    expand-made above c k s give q = travel-made above c k s give q (headingOf above (spotOf (c .x) (c .y)))
+    expand-made above c k s give q = travel-made above c k s give q (wayOf (headingOf above (spotOf (c .x) (c .y))))
 
   deeper-made : (m : ℕ) (above : Point) (c : Cell) (k : ℕ) (s : State) → ((l : ℕ) → m ≡ suc l → Gives l c k) → Q (ok s) → Q (deeperAt t p from m above c k s)
   unfolding deeperAt

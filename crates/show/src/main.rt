@@ -1,6 +1,8 @@
 // Reads a map on standard input, or those in the files that are named, and draws each floor with its route:
 // S start, G goal, X both, as small letters where the cell is blocked; o waypoint, * walked, # blocked, . free.
 // What came of the search stands under it, in words.
+use bends::Bend;
+use checks::Checked;
 use finder::Answer;
 use finder::Outcome;
 use grid::Grid;
@@ -123,13 +125,13 @@ fn say_refusal(out: Out, r: Refusal) -> Out {
     }
 }
 
-// Writes the walk along the first waypoints of a list to path, where it fits.
-fn walk(list: &[i32], waypoints: usize, path: &mut [i32]) {
+// The first waypoints of a list; none where it holds fewer.
+fn first<'a>(list: &'a [i32], waypoints: usize) -> &'a [i32] {
     if list.len() / 2 < waypoints {
-        return;
+        return &list[..0];
     }
     let end = 2 * waypoints;
-    paths::waypoints_to_path(&list[..end], path);
+    &list[..end]
 }
 
 // Draws a route that was found: its walk, and over it its waypoints. What is left of the two lists are points outside, which are drawn nowhere.
@@ -138,7 +140,7 @@ fn put_route(canvas: &mut [u8], w: usize, h: usize, list: &[i32], outcome: Outco
         return;
     };
     let mut path = [-1i32; 16384];
-    walk(list, n, &mut path);
+    paths::waypoints_to_path(first(list, n), &mut path);
     put_all(canvas, w, h, &path, b'*');
     put_all(canvas, w, h, list, b'o');
 }
@@ -186,11 +188,27 @@ fn say_found(out: Out, waypoints: usize) -> Out {
     told
 }
 
-// What came of a search.
-fn say_answer(out: Out, answer: Answer) -> Out {
+// Says which leg of a way is the first that is bent, where the route check names one.
+fn say_bend(out: Out, checked: Checked) -> Out {
+    let Checked::Judged(_, bend) = checked else {
+        return out;
+    };
+    let Bend::Leg(k) = bend else {
+        return out;
+    };
+    let named = say_number(out, b"\nfirst bent leg: ", k);
+    let from = say_number(named, b", from waypoint ", k);
+    say_number(from, b" to waypoint ", std::num::wrapping_add_usize(k, 1))
+}
+
+// What came of a search on a grid, its waypoints at the front of the list.
+fn say_answer(out: Out, g: Grid, list: &[i32], answer: Answer) -> Out {
     let outcome = answer.outcome;
     let told = match outcome {
-        Outcome::Found(n, _) => say_found(out, n),
+        Outcome::Found(n, _) => say_bend(
+            say_found(out, n),
+            checks::check_route(g, first(list, n)),
+        ),
         Outcome::Refused(r) => say_refusal(out, r),
     };
     say(
@@ -214,7 +232,7 @@ fn draw(out: Out, g: Grid, diagonal: bool, start: Point, goal: Point) -> Out {
     put(&mut canvas, w, h, goal, t);
     put_cells(&mut canvas);
     let drawn = say_rows(out, &canvas, w, h);
-    let told = say_answer(drawn, answer);
+    let told = say_answer(drawn, g, &list, answer);
     say_end(say_end(told, b"the start", s), b"the goal", t)
 }
 
@@ -261,7 +279,8 @@ fn say_help(out: Out) -> Out {
 
 S is the start, G the goal, X both at once; s, g and x the same on a blocked cell.
 o is a waypoint, * a cell between two waypoints, # a blocked cell, . a free one.
-Below stand what came of the search, and its pops: the cells that it took up to look at.
+Below stand what came of the search, the first leg between two waypoints that is bent, if one is,
+and the pops of the search: the cells that it took up to look at.
 What is wrong with a map is said on standard error, and the other files are shown.
 ",
     ) {

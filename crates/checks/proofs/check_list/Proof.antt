@@ -1,9 +1,8 @@
 -- `checks::check_list` meets its contract, test by test. Assumes nothing.
 use mathlib.Core.Path.{sym, _∙_}
-use mathlib.Core.Bool.{true, false}
 use denote.Ref.{now}
 use native.Mathlib.Omega.{arith}
-use Rattle.checks.proofs.Laws.{check-empty, check-odd, check-point, check-clear}
+use Rattle.checks.proofs.Laws.{check-empty, check-odd, check-point, check-judged}
 use borrow.Author.Needs.{needs}
 use Rattle.checks.proofs.check_list.Statement.{statement}
 use Rattle.checks.proofs.check_list.Tie as tie
@@ -28,20 +27,19 @@ returns-3 c =
 enum-told : tie.Need-enum-told
 enum-told c = search needs
 
+first-bent-requires : tie.Need-first-bent-requires
+first-bent-requires c κs =
+    (omega (arith, c .before .before .before .if2 .left), omega (arith, c .before .before .before .before .if1 .left), sym (c .before .before .bad-point .ensures) ∙ c .enum-told .given .1)
+
 clear-requires : tie.Need-clear-requires
 clear-requires c κs =
-    let p = c .before .before .before .before .before .before .pre in
-    (p .0, p .1, p .2, omega (arith, c .before .before .before .if2 .left), omega (arith, c .before .before .before .before .if1 .left), sym (c .before .before .bad-point .ensures) ∙ c .enum-told .given .1)
+    let p = c .before .before .before .before .before .before .before .pre in
+    (p .0, p .1, p .2, omega (arith, c .before .before .before .before .if2 .left), omega (arith, c .before .before .before .before .before .if1 .left), sym (c .before .before .before .bad-point .ensures) ∙ c .before .enum-told .given .1)
 
 returns-4 : tie.Need-returns-4
 returns-4 c =
     let a = c .before .before .before .before .before .before .before .before .args in
-    check-clear (a .w) (a .h) (now (a .blocked)) (now (a .list)) (c .before .before .before .before .before .before .if1 .left) (c .before .before .before .before .before .if2 .left) true (sym (c .before .before .before .before .bad-point .ensures) ∙ c .before .before .enum-told .given .1) (sym (c .if3 .taken) ∙ c .before .clear .ensures)
-
-returns-5 : tie.Need-returns-5
-returns-5 c =
-    let a = c .before .before .before .before .before .before .before .before .args in
-    check-clear (a .w) (a .h) (now (a .blocked)) (now (a .list)) (c .before .before .before .before .before .before .if1 .left) (c .before .before .before .before .before .if2 .left) false (sym (c .before .before .before .before .bad-point .ensures) ∙ c .before .before .enum-told .given .1) (sym (c .if3 .left) ∙ c .before .clear .ensures)
+    check-judged (a .w) (a .h) (now (a .blocked)) (now (a .list)) (c .before .before .before .before .before .before .if1 .left) (c .before .before .before .before .before .if2 .left) (c .clear .result) (c .before .first-bent .result) (sym (c .before .before .before .before .bad-point .ensures) ∙ c .before .before .enum-told .given .1) (c .clear .ensures) (c .before .first-bent .ensures)
 
 pub check-list-spec : {M : Type 1} → statement M
 check-list-spec =
@@ -53,6 +51,6 @@ check-list-spec =
     enum-known-bad
     returns-3
     enum-told
+    first-bent-requires
     clear-requires
-    returns-4
-    returns-5)
+    returns-4)

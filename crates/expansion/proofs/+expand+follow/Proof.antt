@@ -7,7 +7,7 @@ use Prim.Native.Nat.{ℕ, _+_, _-_, _*_, _%_, _<_}
 use native.Mathlib.Omega.{arith}
 use borrow.Fn.Kinds.{In}
 use borrow.Fn.PlainCycle.{Measures, is, falls, and}
-use Rattle.headings.specs.Headings.{headingOf}
+use Rattle.headings.specs.Headings.{wayOf, headingOf}
 use Rattle.masks.specs.Masks.{hasBit}
 use Rattle.goals.specs.Goals.{mostSide}
 use Rattle.offers.specs.Search.{outOf, view}
@@ -35,6 +35,7 @@ use Rattle.stops.proofs.price_of.Reads as price-of-reads
 use Rattle.stops.proofs.spot.Reads as spot-reads
 use Rattle.masks.proofs.pruned_mask.Reads as pruned-mask-reads
 use Rattle.headings.proofs.direction_between.Reads as direction-between-reads
+use Rattle.headings.proofs.Heading.way.Reads as way-reads
 use Rattle.expansion.proofs.+expand+follow.{statement}
 use Rattle.expansion.proofs.+expand+follow.Tie.{close}
 
@@ -57,7 +58,7 @@ abbrev follow-below : ℕ → In 10 follow-kinds.ps
 follow-below t = and 10 follow-kinds.ps (falls 10 follow-kinds.ps _<_ μ-follow t) follow.Pre
 
 abbrev expand-claims : ℕ → expand-lts.Claims
-expand-claims t = (spot-reads.Asked, spot-reads.Learnt, direction-between-reads.Asked, direction-between-reads.Learnt, byte-reads.Asked, byte-reads.Learnt, pruned-mask-reads.Asked, pruned-mask-reads.Learnt, price-of-reads.Asked, price-of-reads.Learnt, next-of-reads.Asked, next-of-reads.Learnt, follow-below t, follow.Post)
+expand-claims t = (spot-reads.Asked, spot-reads.Learnt, direction-between-reads.Asked, direction-between-reads.Learnt, way-reads.Asked, way-reads.Learnt, byte-reads.Asked, byte-reads.Learnt, pruned-mask-reads.Asked, pruned-mask-reads.Learnt, price-of-reads.Asked, price-of-reads.Learnt, next-of-reads.Asked, next-of-reads.Learnt, follow-below t, follow.Post)
 
 abbrev follow-claims : ℕ → follow-lts.Claims
 follow-claims t = (jump-along-reads.Asked, jump-along-reads.Learnt, again-reads.Asked, again-reads.Learnt, expand-below t, expand.Post, give-reads.Asked, give-reads.Learnt)
@@ -76,6 +77,9 @@ expand-spot-requires t c κs = let r = c .before .before .before .before .before
 expand-direction-between-requires : (t : ℕ) → expand-lts.Need-direction-between-requires (expand-claims t) (expand-at t) expand.Post expand-Inv-loop expand-μ-loop
 expand-direction-between-requires t c κs = let r = c .before .before .before .before .before .before .before .before .before .before .pre .1 in (r .seen, rw (c .spot .ensures) (spot-legal (wider (r .floors .sized .wide) (r .floors .sized .high) (r .inside))))
 
+expand-way-requires : (t : ℕ) → expand-lts.Need-way-requires (expand-claims t) (expand-at t) expand.Post expand-Inv-loop expand-μ-loop
+expand-way-requires t c κs = search needs
+
 expand-enum-known-travel : (t : ℕ) → expand-lts.Need-enum-known-travel (expand-claims t) (expand-at t) expand.Post expand-Inv-loop expand-μ-loop
 expand-enum-known-travel t c = c .match .keys1
 
@@ -83,10 +87,10 @@ expand-enum-told : (t : ℕ) → expand-lts.Need-enum-told (expand-claims t) (ex
 expand-enum-told t c = c .match .keys2
 
 expand-returns : (t : ℕ) → expand-lts.Need-returns (expand-claims t) (expand-at t) expand.Post expand-Inv-loop expand-μ-loop
-expand-returns t c = expand-same _ _ _ _ _ _ _ _ (sym (c .enum-told .given .1) ∙ c .before .before .direction-between .ensures ∙ ap (headingOf (c .before .before .before .before .before .before .before .before .before .before .before .before .before .args .above)) (c .before .before .before .spot .ensures))
+expand-returns t c = expand-same _ _ _ _ _ _ _ (sym (c .enum-told .given .1) ∙ c .before .before .way .ensures ∙ ap wayOf (c .before .before .before .direction-between .ensures ∙ ap (headingOf (c .before .before .before .before .before .before .before .before .before .before .before .before .before .before .args .above)) (c .before .before .before .before .spot .ensures)))
 
 expand-byte-requires : (t : ℕ) → expand-lts.Need-byte-requires (expand-claims t) (expand-at t) expand.Post expand-Inv-loop expand-μ-loop
-expand-byte-requires t c κs = let r = c .before .before .before .before .before .before .before .before .before .before .before .before .before .before .pre .1 in held (r .floors .sized-neighbours) (r .inside)
+expand-byte-requires t c κs = let r = c .before .before .before .before .before .before .before .before .before .before .before .before .before .before .before .pre .1 in held (r .floors .sized-neighbours) (r .inside)
 
 expand-pruned-mask-requires : (t : ℕ) → expand-lts.Need-pruned-mask-requires (expand-claims t) (expand-at t) expand.Post expand-Inv-loop expand-μ-loop
 expand-pruned-mask-requires t c κs = search needs
@@ -98,11 +102,11 @@ expand-next-of-requires : (t : ℕ) → expand-lts.Need-next-of-requires (expand
 expand-next-of-requires t c κs = search needs
 
 expand-loop-holds : (t : ℕ) → expand-lts.Need-loop-holds (expand-claims t) (expand-at t) expand.Post expand-Inv-loop expand-μ-loop
-expand-loop-holds t c = (round-skip _ _ _ _ _ _ _ _ _ _ _ _ _ _ _ _ _ _ _ _ _ _ _ _ _ (c .next-of .ensures .0) (round-start _ _ _ _ _ _ _ _ _ _ (c .before .before .before .before .before .before .before .before .before .before .before .before .before .before .before .before .before .before .pre .1 .lent)), c .next-of .ensures .1)
+expand-loop-holds t c = (round-skip _ _ _ _ _ _ _ _ _ _ _ _ _ _ _ _ _ _ _ _ _ _ _ _ _ (c .next-of .ensures .0) (round-start _ _ _ _ _ _ _ _ _ _ (c .before .before .before .before .before .before .before .before .before .before .before .before .before .before .before .before .before .before .before .pre .1 .lent)), c .next-of .ensures .1)
 
 expand-follow-requires : (t : ℕ) → expand-lts.Need-follow-requires (expand-claims t) (expand-at t) expand.Post expand-Inv-loop expand-μ-loop
 expand-follow-requires t c κs =
-    let s = c .before .before .before .before .before .before .before .before .before .before .before .before .before .before .before .before .before .before .before .before .before .before .before .before .before .before in
+    let s = c .before .before .before .before .before .before .before .before .before .before .before .before .before .before .before .before .before .before .before .before .before .before .before .before .before .before .before in
     let r = s .pre .1 in
     let i = c .before .before .before .before .before .before .before .loop .inv .0 in
     let k = c .before .before .before .before .before .before .before .before .before .price-of .ensures in (
@@ -135,14 +139,14 @@ expand-same-length-6 : (t : ℕ) → expand-lts.Need-same-length-6 (expand-claim
 expand-same-length-6 t c = c .before .before .before .before .before .before .before .before .before .before .before .before .before .before .before .follow .kept .1 .1 .1 .1 .1 .1 .1 .1 .1 .0 ∙ c .before .before .before .before .before .before .before .before .before .before .before .before .before .before .before .before .before .before .before .before .before .before .before .loop .inv .0 .sizes .idx
 
 -- how the cell was reached, at the loop
-expand-faced : (t : ℕ) (c : expand-lts.At-loop (expand-claims t) (expand-at t) expand.Post expand-Inv-loop expand-μ-loop) → Faced (tables (c .before .before .before .before .before .before .before .before .before .before .before .before .before .before .before .before .before .before .before .args .blocked .now) (c .before .before .before .before .before .before .before .before .before .before .before .before .before .before .before .before .before .before .before .args .neighbours .now) (c .before .before .before .before .before .before .before .before .before .before .before .before .before .before .before .before .before .before .before .args .forced .now) (c .before .before .before .before .before .before .before .before .before .before .before .before .before .before .before .before .before .before .before .args .goals .now)) (c .before .before .before .before .before .before .before .before .before .before .before .before .before .before .before .before .before .before .before .args .p) (c .before .before .before .before .before .before .before .before .before .before .before .before .before .before .before .before .before .before .before .args .above) (c .before .before .before .before .before .before .before .before .before .before .before .before .before .before .before .before .before .before .before .args .node) (c .before .before .before .pruned-mask .result) (c .before .before .price-of .result) (c .before .before .before .before .before .before .travel .given .0 .0)
+expand-faced : (t : ℕ) (c : expand-lts.At-loop (expand-claims t) (expand-at t) expand.Post expand-Inv-loop expand-μ-loop) → Faced (tables (c .before .before .before .before .before .before .before .before .before .before .before .before .before .before .before .before .before .before .before .before .args .blocked .now) (c .before .before .before .before .before .before .before .before .before .before .before .before .before .before .before .before .before .before .before .before .args .neighbours .now) (c .before .before .before .before .before .before .before .before .before .before .before .before .before .before .before .before .before .before .before .before .args .forced .now) (c .before .before .before .before .before .before .before .before .before .before .before .before .before .before .before .before .before .before .before .before .args .goals .now)) (c .before .before .before .before .before .before .before .before .before .before .before .before .before .before .before .before .before .before .before .before .args .p) (c .before .before .before .before .before .before .before .before .before .before .before .before .before .before .before .before .before .before .before .before .args .above) (c .before .before .before .before .before .before .before .before .before .before .before .before .before .before .before .before .before .before .before .before .args .node) (c .before .before .before .pruned-mask .result) (c .before .before .price-of .result) (c .before .before .before .before .before .before .travel .given .0 .0)
 expand-faced t c =
-    let s = c .before .before .before .before .before .before .before .before .before .before .before .before .before .before .before .before .before .before .before in
-    faced (tables (s .args .blocked .now) (s .args .neighbours .now) (s .args .forced .now) (s .args .goals .now)) (s .args .p) (s .args .above) (s .args .node) (c .before .before .before .pruned-mask .result) (c .before .before .price-of .result) (c .before .before .before .before .before .before .travel .given .0 .0) (c .before .before .before .before .before .before .before .before .before .spot .result) (c .before .before .before .before .before .before .before .before .direction-between .result) (c .before .before .before .before .byte .result) (c .before .before .before .before .before .before .before .before .before .spot .ensures) (c .before .before .before .before .before .before .before .before .direction-between .ensures) (c .before .before .before .before .before .before .travel .given .1) (c .before .before .before .before .byte .ensures) (c .before .before .before .pruned-mask .ensures) (c .before .before .price-of .ensures)
+    let s = c .before .before .before .before .before .before .before .before .before .before .before .before .before .before .before .before .before .before .before .before in
+    faced (tables (s .args .blocked .now) (s .args .neighbours .now) (s .args .forced .now) (s .args .goals .now)) (s .args .p) (s .args .above) (s .args .node) (c .before .before .before .pruned-mask .result) (c .before .before .price-of .result) (c .before .before .before .before .before .before .travel .given .0 .0) (c .before .before .before .before .before .before .before .before .before .before .spot .result) (c .before .before .before .before .before .before .before .before .before .direction-between .result) (c .before .before .before .before .before .before .before .before .way .result) (c .before .before .before .before .byte .result) (c .before .before .before .before .before .before .before .before .before .before .spot .ensures) (c .before .before .before .before .before .before .before .before .before .direction-between .ensures) (c .before .before .before .before .before .before .before .before .way .ensures) (c .before .before .before .before .before .before .travel .given .1) (c .before .before .before .before .byte .ensures) (c .before .before .before .pruned-mask .ensures) (c .before .before .price-of .ensures)
 
 expand-returns-2 : (t : ℕ) → expand-lts.Need-returns-2 (expand-claims t) (expand-at t) expand.Post expand-Inv-loop expand-μ-loop
 expand-returns-2 t c =
-    let s = c .before .before .before .before .before .before .before .before .before .before .before .before .before .before .before .before .before .before .before .before .before .before .before .before .before .before .before .before .before .before .before .before .before .before .before .before .before .before .before .before .before .before in
+    let s = c .before .before .before .before .before .before .before .before .before .before .before .before .before .before .before .before .before .before .before .before .before .before .before .before .before .before .before .before .before .before .before .before .before .before .before .before .before .before .before .before .before .before .before in
     let l = c .before .before .before .before .before .before .before .before .before .before .before .before .before .before .before .before .before .before .before .before .before .before .before .loop in
     let f = c .before .before .before .before .before .before .before .before .before .before .before .before .before .before .before .follow in
     halted (tables (s .args .blocked .now) (s .args .neighbours .now) (s .args .forced .now) (s .args .goals .now)) (s .args .p) (s .args .from) (s .args .depth) (s .args .above) (s .args .node) (c .before .before .before .before .before .before .before .before .before .before .before .before .before .before .before .before .before .before .before .before .before .before .before .before .before .before .pruned-mask .result) (c .before .before .before .before .before .before .before .before .before .before .before .before .before .before .before .before .before .before .before .before .before .before .before .before .before .price-of .result) (s .args .base) (c .before .before .before .before .before .before .before .before .before .before .before .before .before .before .before .before .before .before .before .before .before .before .before .before .before .before .before .before .before .travel .given .0 .0) (expand-faced t (c .before .before .before .before .before .before .before .before .before .before .before .before .before .before .before .before .before .before .before .before .before .before .before)) (s .args .number .now) (s .args .place .now) (s .args .parent .now) (s .args .cost .now) (s .args .keys .now) (s .args .idx .now) (s .args .m) (l .number) (l .place) (l .parent) (l .cost) (l .keys) (l .idx) (l .n) (l .e) (l .inv .0) (c .before .before .before .before .before .before .before .before .before .before .before .before .before .before .before .before .before .before .before .before .before .before .loop-test .taken) (l .inv .1) (f .last .1 .1 .1 .1 .0) (f .last .1 .1 .1 .1 .1 .0) (f .last .1 .1 .1 .1 .1 .1 .0) (f .last .1 .1 .1 .1 .1 .1 .1 .0) (f .last .1 .1 .1 .1 .1 .1 .1 .1 .0) (f .last .1 .1 .1 .1 .1 .1 .1 .1 .1 .0) (f .result) (f .ensures) (c .before .fate .given .0 .0) (c .before .fate .given .1)
@@ -161,7 +165,7 @@ expand-loop-less t c = omega (arith, c .before .before .before .before .before .
 
 expand-loop-again : (t : ℕ) → expand-lts.Need-loop-again (expand-claims t) (expand-at t) expand.Post expand-Inv-loop expand-μ-loop
 expand-loop-again t c =
-    let s = c .before .before .before .before .before .before .before .before .before .before .before .before .before .before .before .before .before .before .before .before .before .before .before .before .before .before .before .before .before .before .before .before .before .before .before .before .before .before .before .before .before .before .before in
+    let s = c .before .before .before .before .before .before .before .before .before .before .before .before .before .before .before .before .before .before .before .before .before .before .before .before .before .before .before .before .before .before .before .before .before .before .before .before .before .before .before .before .before .before .before .before in
     let l = c .before .before .before .before .before .before .before .before .before .before .before .before .before .before .before .before .before .before .before .before .before .before .before .before .loop in
     let f = c .before .before .before .before .before .before .before .before .before .before .before .before .before .before .before .before .follow in
     (turned (tables (s .args .blocked .now) (s .args .neighbours .now) (s .args .forced .now) (s .args .goals .now)) (s .args .p) (s .args .from) (s .args .depth) (s .args .above) (s .args .node) (c .before .before .before .before .before .before .before .before .before .before .before .before .before .before .before .before .before .before .before .before .before .before .before .before .before .before .before .pruned-mask .result) (c .before .before .before .before .before .before .before .before .before .before .before .before .before .before .before .before .before .before .before .before .before .before .before .before .before .before .price-of .result) (s .args .base) (c .before .before .before .before .before .before .before .before .before .before .before .before .before .before .before .before .before .before .before .before .before .before .before .before .before .before .before .before .before .before .travel .given .0 .0) (expand-faced t (c .before .before .before .before .before .before .before .before .before .before .before .before .before .before .before .before .before .before .before .before .before .before .before .before)) (s .args .number .now) (s .args .place .now) (s .args .parent .now) (s .args .cost .now) (s .args .keys .now) (s .args .idx .now) (s .args .m) (l .number) (l .place) (l .parent) (l .cost) (l .keys) (l .idx) (l .n) (l .e) (l .inv .0) (c .before .before .before .before .before .before .before .before .before .before .before .before .before .before .before .before .before .before .before .before .before .before .before .loop-test .taken) (l .inv .1) (f .last .1 .1 .1 .1 .0) (f .last .1 .1 .1 .1 .1 .0) (f .last .1 .1 .1 .1 .1 .1 .0) (f .last .1 .1 .1 .1 .1 .1 .1 .0) (f .last .1 .1 .1 .1 .1 .1 .1 .1 .0) (f .last .1 .1 .1 .1 .1 .1 .1 .1 .1 .0) (f .result) (f .ensures) (s .pre .1) (c .before .before .enum-told2 .given .1) (f .kept .1 .1 .1 .1 .0) (f .kept .1 .1 .1 .1 .1 .0) (f .kept .1 .1 .1 .1 .1 .1 .0) (f .kept .1 .1 .1 .1 .1 .1 .1 .0) (f .kept .1 .1 .1 .1 .1 .1 .1 .1 .0) (f .kept .1 .1 .1 .1 .1 .1 .1 .1 .1 .0) (c .next-of2 .result) (c .next-of2 .ensures .0), c .next-of2 .ensures .1)
@@ -186,7 +190,7 @@ expand-same-length-12 t c = c .before .loop .inv .0 .sizes .idx
 
 expand-returns-3 : (t : ℕ) → expand-lts.Need-returns-3 (expand-claims t) (expand-at t) expand.Post expand-Inv-loop expand-μ-loop
 expand-returns-3 t c =
-    let s = c .before .before .before .before .before .before .before .before .before .before .before .before .before .before .before .before .before .before .before .before in
+    let s = c .before .before .before .before .before .before .before .before .before .before .before .before .before .before .before .before .before .before .before .before .before in
     let l = c .before .loop in
     finished (tables (s .args .blocked .now) (s .args .neighbours .now) (s .args .forced .now) (s .args .goals .now)) (s .args .p) (s .args .from) (s .args .depth) (s .args .above) (s .args .node) (c .before .before .before .before .pruned-mask .result) (c .before .before .before .price-of .result) (s .args .base) (c .before .before .before .before .before .before .before .travel .given .0 .0) (expand-faced t (c .before)) (s .args .number .now) (s .args .place .now) (s .args .parent .now) (s .args .cost .now) (s .args .keys .now) (s .args .idx .now) (s .args .m) (l .number) (l .place) (l .parent) (l .cost) (l .keys) (l .idx) (l .n) (l .e) (l .inv .0) (c .loop-test .left)
 
@@ -298,6 +302,7 @@ pub +expand+follow-spec : {M : Type 1} → statement M
     expand-μ-loop
     (expand-spot-requires t)
     (expand-direction-between-requires t)
+    (expand-way-requires t)
     (expand-enum-known-travel t)
     (expand-enum-told t)
     (expand-returns t)

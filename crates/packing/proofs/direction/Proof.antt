@@ -1,7 +1,11 @@
--- `packing::direction` meets its contract: case by case. Assumes nothing.
-use mathlib.Core.Path.{sym, ap, _∙_}
+-- `packing::direction` meets its contract: case by case; as many steps as lead between two points in range leave room for the rest. Assumes nothing.
+use mathlib.Core.Path.{_≡_, sym, ap, _∙_, subst}
+use Prim.Native.Nat.{_≤_}
+use native.Mathlib.Omega.{arith}
 use Rattle.points.specs.declared.Told.{Told}
-use Rattle.points.specs.declared.Heading.{Heading}
+use Rattle.headings.specs.declared.Heading.{Heading}
+use Rattle.headings.specs.Headings.{stepsOf, directionOf}
+use Rattle.headings.proofs.Lines.{direction-short}
 use Rattle.packing.specs.Packing.{refusedWith, headingPacked}
 use borrow.Author.Needs.{needs}
 use Rattle.packing.proofs.direction.Statement.{statement}
@@ -10,14 +14,42 @@ use Rattle.packing.proofs.direction.Tie as tie
 direction-to-requires : tie.Need-direction-to-requires
 direction-to-requires c κs = search needs
 
+-- the steps of what the call handed back are few
+few : (c : tie.After-direction-to) (h : Heading) → c .direction-to .result ≡ h → stepsOf h ≤ 2047
+few c h e = subst (λ (k : Heading). stepsOf k ≤ 2047) (sym (c .direction-to .ensures) ∙ e) (direction-short (c .before .args .a) (c .before .args .b))
+
+told : (c : tie.After-direction-to) (h : Heading) → c .direction-to .result ≡ h → headingPacked h (c .before .args .a) ≡ headingPacked (directionOf (c .before .args .a) (c .before .args .b)) (c .before .args .a)
+told c h e = ap (λ (k : Heading). headingPacked k (c .before .args .a)) (sym e ∙ c .direction-to .ensures)
+
 enum-known-h : tie.Need-enum-known-h
 enum-known-h c = search needs
+
+mul-result : tie.Need-mul-result
+mul-result c = omega (arith, few (c .before .before .before) _ (c .before .h .given .1))
 
 cast-result : tie.Need-cast-result
 cast-result c = search needs
 
+add-result : tie.Need-add-result
+add-result c = omega (arith, few (c .before .before .before .before) _ (c .before .before .h .given .1))
+
 enum-known-h-2 : tie.Need-enum-known-h-2
 enum-known-h-2 c = search needs
+
+mul-result-2 : tie.Need-mul-result-2
+mul-result-2 c = omega (arith, few (c .before .before .before) _ (c .before .h2 .given .1))
+
+add-result-2 : tie.Need-add-result-2
+add-result-2 c = omega (arith, few (c .before .before .before) _ (c .before .h2 .given .1))
+
+cast-result-2 : tie.Need-cast-result-2
+cast-result-2 c = search needs
+
+add-result-3 : tie.Need-add-result-3
+add-result-3 c = omega (arith, few (c .before .before .before .before) _ (c .before .before .h2 .given .1))
+
+enum-known-h-3 : tie.Need-enum-known-h-3
+enum-known-h-3 c = search needs
 
 told-requires : tie.Need-told-requires
 told-requires c κs = search needs
@@ -26,15 +58,15 @@ refused-requires : tie.Need-refused-requires
 refused-requires c κs = search needs
 
 returns : tie.Need-returns
-returns c =
-    let a = c .before .before .before .before .before .args in
-    ap (λ (h : Heading). headingPacked h (a .a)) (sym (c .before .before .h .given .1)) ∙ ap (λ (h : Heading). headingPacked h (a .a)) (c .before .before .before .before .direction-to .ensures)
+returns c = told (c .before .before .before .before) _ (c .before .before .h .given .1)
 
 returns-2 : tie.Need-returns-2
-returns-2 c =
-    let a = c .before .before .before .before .before .before .args in
-    c .refused .ensures ∙ ap (λ (t : Told). refusedWith t (a .a)) (c .before .told .ensures)
-    ∙ ap (λ (h : Heading). headingPacked h (a .a)) (sym (c .before .before .before .h2 .given .1)) ∙ ap (λ (h : Heading). headingPacked h (a .a)) (c .before .before .before .before .before .direction-to .ensures)
+returns-2 c = told (c .before .before .before .before) _ (c .before .before .h2 .given .1)
+
+returns-3 : tie.Need-returns-3
+returns-3 c =
+    let d = c .before .before .before .before .before in
+    c .refused .ensures ∙ ap (λ (t : Told). refusedWith t (d .before .args .a)) (c .before .told .ensures) ∙ told d _ (c .before .before .before .h3 .given .1)
 
 pub direction-spec : {M : Type 1} → statement M
 direction-spec =
@@ -42,9 +74,17 @@ direction-spec =
     (tie.spec
     direction-to-requires
     enum-known-h
+    mul-result
     cast-result
+    add-result
     enum-known-h-2
+    mul-result-2
+    add-result-2
+    cast-result-2
+    add-result-3
+    enum-known-h-3
     told-requires
     refused-requires
     returns
-    returns-2)
+    returns-2
+    returns-3)

@@ -1,8 +1,11 @@
 -- `paths::count` meets its contract: the room that is left is held against the path from here on. The measure is the numbers that are left. Assumes nothing.
 use Rattle.pairs.proofs.Laws.{legal-here, none-bad}
 use Rattle.paths.proofs.Laws.{length-here, path-end, path-length, counted-over, counted-few}
+use Rattle.paths.proofs.Legs.{leg-steps}
+use borrow.Author.Needs.{needs}
 use Rattle.pairs.specs.declared.Bad.the-variants.{Nowhere}
 use Rattle.pairs.specs.Pairs.{firstBad, pointAt}
+use Rattle.headings.specs.Headings.{spanOf}
 use Rattle.paths.specs.Walks.{pathFrom, pathOf}
 use Rattle.points.specs.Plane.{legal}
 use lib.ListN.{length, drop}
@@ -45,20 +48,27 @@ loop-holds c =
 point-at-requires-2 : tie.Need-point-at-requires-2 Inv-loop μ-loop
 point-at-requires-2 c κs = omega arith
 
-span-requires : tie.Need-span-requires Inv-loop μ-loop
-span-requires c κs =
+direction-between-requires : tie.Need-direction-between-requires Inv-loop μ-loop
+direction-between-requires c κs =
     let v = c .before .before .loop in
     let l = now (c .before .before .before .before .before .args .list) in
     let r = c .point-at2 .result in
     (v .inv .0, legal-here l (v .i) r (c .point-at2 .ensures) (none-bad l (v .i) (omega arith) (v .inv .1) .0))
 
+steps-requires : tie.Need-steps-requires Inv-loop μ-loop
+steps-requires c κs = search needs
+
+-- the leg has as many steps as its heading tells
+steps : (c : tie.After-steps Inv-loop μ-loop) → c .steps .result ≡ spanOf (c .before .before .before .before .loop .p) (c .before .before .point-at2 .result)
+steps c = leg-steps (c .before .direction-between .result) (c .before .before .before .before .loop .p) (c .before .before .point-at2 .result) (c .steps .result) (c .before .direction-between .ensures) (c .steps .ensures)
+
 returns-2 : tie.Need-returns-2 Inv-loop μ-loop
 returns-2 c =
-    let v = c .before .before .before .before .loop in
-    let s = c .before .before .before .before .before .before .before in
+    let v = c .before .before .before .before .before .loop in
+    let s = c .before .before .before .before .before .before .before .before in
     let l = now (s .args .list) in
-    let k = c .before .before .point-at2 in
-    counted-over l (s .args .room) (omega (arith, length-here l (v .i) (v .p) (k .result) (k .ensures) (omega arith), c .before .span .ensures .0))
+    let k = c .before .before .before .point-at2 in
+    counted-over l (s .args .room) (omega (arith, length-here l (v .i) (v .p) (k .result) (k .ensures) (omega arith), steps (c .before)))
 
 add-i : tie.Need-add-i Inv-loop μ-loop
 add-i c = omega arith
@@ -68,14 +78,14 @@ loop-less c = omega arith
 
 loop-again : tie.Need-loop-again Inv-loop μ-loop
 loop-again c =
-    let v = c .before .before .before .before .loop in
-    let l = now (c .before .before .before .before .before .before .before .args .list) in
-    let k = c .before .before .point-at2 in
+    let v = c .before .before .before .before .before .loop in
+    let l = now (c .before .before .before .before .before .before .before .before .args .list) in
+    let k = c .before .before .before .point-at2 in
     let n = none-bad l (v .i) (omega arith) (v .inv .1) in
-    (legal-here l (v .i) (k .result) (k .ensures) (n .0), n .1, omega arith, omega arith, omega arith, omega (arith, length-here l (v .i) (v .p) (k .result) (k .ensures) (omega arith), c .before .span .ensures .0))
+    (legal-here l (v .i) (k .result) (k .ensures) (n .0), n .1, omega arith, omega arith, omega arith, omega (arith, length-here l (v .i) (v .p) (k .result) (k .ensures) (omega arith), steps (c .before)))
 
-sub-t11 : tie.Need-sub-t11 Inv-loop μ-loop
-sub-t11 c = omega arith
+sub-t12 : tie.Need-sub-t12 Inv-loop μ-loop
+sub-t12 c = omega arith
 
 returns-3 : tie.Need-returns-3 Inv-loop μ-loop
 returns-3 c =
@@ -95,10 +105,11 @@ count-spec =
     point-at-requires
     loop-holds
     point-at-requires-2
-    span-requires
+    direction-between-requires
+    steps-requires
     returns-2
     add-i
     loop-less
     loop-again
-    sub-t11
+    sub-t12
     returns-3)

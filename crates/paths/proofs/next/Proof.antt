@@ -1,7 +1,4 @@
 -- `paths::next` meets its contract: one step of each coordinate. Assumes nothing.
-use mir.Val.{toZ, ofZ}
-use mir.Syntax.{w32}
-use Rattle.paths.proofs.Laws.{both-in}
 use Rattle.paths.specs.Walks.{closerTo}
 use Rattle.points.proofs.Signed.{parts, reads, read-in}
 use mathlib.Core.Path.{_∙_}
@@ -31,7 +28,7 @@ returns c =
     let m = c .closer2 in
     let x = read-in (k .result) (k .ensures .1) ∙ k .ensures .0 ∙ (λ i. closerTo (read-in (a .args .p .x) (p .0) i) (read-in (a .args .q .x) (q .0) i)) in
     let y = read-in (m .result) (m .ensures .1) ∙ m .ensures .0 ∙ (λ i. closerTo (read-in (a .args .p .y) (p .1) i) (read-in (a .args .q .y) (q .1) i)) in
-    ((λ i. record { x = x i; y = y i }), both-in (toZ w32 (ofZ w32 (k .result))) (toZ w32 (ofZ w32 (m .result))) (reads (k .result) (k .ensures .1)) (reads (m .result) (m .ensures .1)))
+    λ i. record { x = x i; y = y i }
 
 pub next-spec : {M : Type 1} → statement M
 next-spec = tie.close (tie.spec closer-requires closer-requires-2 returns)

@@ -44,29 +44,12 @@ loop-holds c =
 point-at-requires-2 : tie.Need-point-at-requires-2 Inv-loop μ-loop
 point-at-requires-2 c κs = omega arith
 
-span-requires : tie.Need-span-requires Inv-loop μ-loop
-span-requires c κs =
-    let v = c .before .before .loop in
-    let l = now (c .before .before .before .before .before .before .before .args .list) in
-    let k = c .point-at2 in
-    (v .inv .0, legal-here l (v .i) (k .result) (k .ensures) (none-bad l (v .i) (omega arith) (v .inv .1) .0))
-
 put-walk-requires : tie.Need-put-walk-requires Inv-loop μ-loop
 put-walk-requires c κs =
-    let v = c .before .before .before .before .loop in
-    let l = now (c .before .before .before .before .before .before .before .before .before .args .list) in
-    let k = c .before .before .point-at2 in
-    (v .inv .0, legal-here l (v .i) (k .result) (k .ensures) (none-bad l (v .i) (omega arith) (v .inv .1) .0), omega (arith, length-here l (v .i) (v .p) (k .result) (k .ensures) (omega arith), c .before .span .ensures .0))
-
-mul-at : tie.Need-mul-at Inv-loop μ-loop
-mul-at c = omega (arith, c .before .before .before .span .ensures .1)
-
-add-at : tie.Need-add-at Inv-loop μ-loop
-add-at c =
-    let v = c .before .before .before .before .before .before .loop in
-    let l = now (c .before .before .before .before .before .before .before .before .before .before .before .args .list) in
-    let k = c .before .before .before .before .point-at2 in
-    omega (arith, length-here l (v .i) (v .p) (k .result) (k .ensures) (omega arith), c .before .before .before .span .ensures .0, c .before .before .before .before .before .before .before .before .before .before .before .good)
+    let v = c .before .before .before .loop in
+    let l = now (c .before .before .before .before .before .before .before .before .args .list) in
+    let k = c .before .point-at2 in
+    (v .inv .0, legal-here l (v .i) (k .result) (k .ensures) (none-bad l (v .i) (omega arith) (v .inv .1) .0), omega (arith, length-here l (v .i) (v .p) (k .result) (k .ensures) (omega arith)))
 
 add-i : tie.Need-add-i Inv-loop μ-loop
 add-i c = omega arith
@@ -76,13 +59,12 @@ loop-less c = omega arith
 
 loop-again : tie.Need-loop-again Inv-loop μ-loop
 loop-again c =
-    let v = c .before .before .before .before .before .before .loop in
-    let l = now (c .before .before .before .before .before .before .before .before .before .before .before .args .list) in
-    let k = c .before .before .before .before .point-at2 in
+    let v = c .before .before .before .before .before .loop in
+    let l = now (c .before .before .before .before .before .before .before .before .before .before .args .list) in
+    let k = c .before .before .before .point-at2 in
     let m = c .before .put-walk in
-    let d = c .before .before .before .span in
     let n = none-bad l (v .i) (omega arith) (v .inv .1) in
-    (legal-here l (v .i) (k .result) (k .ensures) (n .0), n .1, omega arith, omega arith, m .kept .0 ∙ v .inv .4, omega (arith, m .kept .0, length-here l (v .i) (v .p) (k .result) (k .ensures) (omega arith), d .ensures .0), stores-here l (v .i) (v .p) (k .result) (k .ensures) (v .out) (m .last .0) (v .at) (d .result) (d .ensures .0) (m .ensures) (omega arith) ∙ v .inv .6)
+    (legal-here l (v .i) (k .result) (k .ensures) (n .0), n .1, omega arith, omega arith, m .kept .0 ∙ v .inv .4, omega (arith, m .kept .0, length-here l (v .i) (v .p) (k .result) (k .ensures) (omega arith), m .ensures .0), stores-here l (v .i) (v .p) (k .result) (k .ensures) (v .out) (m .last .0) (v .at) (m .result) (m .ensures .0) (m .ensures .1) (omega arith) ∙ v .inv .6)
 
 same-length : tie.Need-same-length Inv-loop μ-loop
 same-length c = c .before .loop .inv .4 ∙ c .before .before .before .put .kept .0
@@ -109,10 +91,7 @@ put-path-spec =
     put-requires
     loop-holds
     point-at-requires-2
-    span-requires
     put-walk-requires
-    mul-at
-    add-at
     add-i
     loop-less
     loop-again
