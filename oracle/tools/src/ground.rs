@@ -1,8 +1,9 @@
 //! The Rust's masks, directions and distances with document 01's refusals, and points and factors to ask about.
-use crate::judge::{factor_ok, in_range};
+use crate::judge::{course, factor_ok, in_range};
 use crate::rng::Rng;
 use grid_pathfinding as plain;
 use grid_pathfinding_instr as instr;
+use grid_util::direction::Direction;
 use grid_util::grid::ValueGrid;
 use grid_util::point::Point;
 
@@ -30,6 +31,7 @@ fn point_refusal(a: Point, b: Point) -> Option<u32> {
         None
     }
 }
+/// 16 times the steps, 8 more where they bend, and the direction, which is the Rust's.
 pub fn heading(a: Point, b: Point) -> u32 {
     if let Some(no) = point_refusal(a, b) {
         return no;
@@ -37,7 +39,8 @@ pub fn heading(a: Point, b: Point) -> u32 {
     if a == b {
         return REFUSED + 11 + 256;
     }
-    a.dir_obj(&b).num() as u32
+    let way = course(a, b);
+    16 * way.steps + 8 * way.bent as u32 + a.dir_obj(&b).num() as u32
 }
 pub fn distance(diagonal: bool, a: Point, b: Point) -> u32 {
     if let Some(no) = point_refusal(a, b) {
@@ -127,4 +130,30 @@ pub fn pairs(n: usize, r: &mut Rng) -> Vec<(Point, Point)> {
         v.push((a, b));
     }
     v
+}
+
+/// Two points in line, from none to as many steps apart as the range has room for; four times in ten the second is one step off.
+pub fn lined(r: &mut Rng) -> (Point, Point) {
+    let mut coordinate = || match r.below(4) {
+        0 => [-1024, 1023][r.below(2) as usize],
+        _ => r.range(-1024, 1023),
+    };
+    let a = Point::new(coordinate(), coordinate());
+    let (dx, dy) = Direction::try_from(r.range(0, 7)).unwrap().offset();
+    let room = |at: i32, step: i32| match step {
+        -1 => at + 1024,
+        0 => 2047,
+        _ => 1023 - at,
+    };
+    let longest = room(a.x, dx).min(room(a.y, dy));
+    let steps = match r.below(4) {
+        0 => longest,
+        1 => r.range(0, longest.min(8)),
+        _ => r.range(0, longest),
+    };
+    let b = Point::new(a.x + steps * dx, a.y + steps * dy);
+    match r.pct(40) {
+        true => (a, b.moore_neighbor(r.range(0, 7))),
+        false => (a, b),
+    }
 }

@@ -4,6 +4,7 @@
 //! parent. Should it come, the Rust panics and the program with it.
 //! Whatever both can be asked, both are, and their answers must agree. The instrumented one alone gives
 //! pops, costs and refusals 6 to 9, and the union-find's inside on tables that no calls made.
+use crate::make::points_of;
 use crate::stats::{self, Limits};
 use grid_pathfinding as plain;
 use grid_pathfinding_instr as instr;
@@ -87,10 +88,41 @@ pub fn list_refused(v: &[i32]) -> Option<(u8, Point)> {
     if v.is_empty() || v.len() % 2 == 1 {
         return Some((13, Point::new(0, 0)));
     }
-    let bad = crate::make::points_of(v)
-        .into_iter()
-        .find(|p| !in_range(*p))?;
+    let bad = points_of(v).into_iter().find(|p| !in_range(*p))?;
     Some((14, bad))
+}
+/// A route check's answer: result 0, else the refusal; the point is the one that POINT carries.
+#[derive(Clone, PartialEq, Debug)]
+pub struct Check {
+    pub result: u8,
+    pub point: Point,
+    pub clear: bool,
+    /// the first bent leg, from 1, or 0 for none
+    pub bent: usize,
+}
+impl Check {
+    /// What is refused is not clear and names no leg.
+    pub fn refused(result: u8, point: Point) -> Check {
+        Check {
+            result,
+            point,
+            clear: false,
+            bent: 0,
+        }
+    }
+}
+/// The check of a waypoint list's numbers on a floor.
+pub fn check(w: i32, h: i32, blocked: &[bool], v: &[i32]) -> Check {
+    if let Some((result, point)) = list_refused(v) {
+        return Check::refused(result, point);
+    }
+    let list = points_of(v);
+    Check {
+        result: 0,
+        point: Point::new(0, 0),
+        clear: clear(w, h, blocked, &list),
+        bent: first_bent(&list),
+    }
 }
 /// Document 02's rule of a list that is not refused: every cell of the expanded walk after the first point is inside and free.
 /// It is judged twice, by the path that the unchanged Rust makes and by the cells of each leg (`leg`), and both must say the same.
@@ -109,6 +141,57 @@ fn leg(p: Point, q: Point) -> impl Iterator<Item = Point> {
     let (across, down) = (q.x - p.x, q.y - p.y);
     let steps = across.abs().max(down.abs());
     (1..=steps).map(move |k| Point::new(p.x + across.clamp(-k, k), p.y + down.clamp(-k, k)))
+}
+/// Document 02's first bent leg, from 1: leg k goes from the k-th waypoint to the next, equal or not. 0 where none is bent.
+pub fn first_bent(list: &[Point]) -> usize {
+    let bent = |ends: &[Point]| course(ends[0], ends[1]).bent;
+    list.windows(2)
+        .position(bent)
+        .map_or(0, |before| before + 1)
+}
+/// How many steps lead from one point to another, and whether they bend, so that no number of equal steps leads there.
+#[derive(Clone, Copy, PartialEq, Debug)]
+pub struct Course {
+    pub steps: u32,
+    pub bent: bool,
+}
+/// It is judged twice, by the steps of the path that the unchanged Rust makes and by the differences alone, and both must say the same.
+/// Equal points are no step apart and not bent.
+pub fn course(p: Point, q: Point) -> Course {
+    let by_differences = reckoned(p, q);
+    assert_eq!(
+        walked(p, q),
+        by_differences,
+        "the judges differ on {p:?} {q:?}"
+    );
+    by_differences
+}
+/// Bent where not all steps of the Rust's path are the first one again.
+fn walked(p: Point, q: Point) -> Course {
+    let path = plain::waypoints_to_path(vec![p, q]);
+    let step = |k: usize| (path[k + 1].x - path[k].x, path[k + 1].y - path[k].y);
+    let steps = path.len() - 1;
+    Course {
+        steps: steps as u32,
+        bent: (0..steps).any(|k| step(k) != step(0)),
+    }
+}
+/// The differences fall into as many equal parts as their greatest common divisor says. Straight where a part is one step.
+fn reckoned(p: Point, q: Point) -> Course {
+    let (across, down) = (p.x.abs_diff(q.x), p.y.abs_diff(q.y));
+    let parts = divisor(across, down);
+    let bent = across > parts || down > parts;
+    Course {
+        steps: if bent { across.max(down) } else { parts },
+        bent,
+    }
+}
+/// The greatest common divisor; of 0 and a number, the number.
+fn divisor(a: u32, b: u32) -> u32 {
+    match b {
+        0 => a,
+        _ => divisor(b, a % b),
+    }
 }
 /// The refusals that come before a search, in document 01's order: SETTING, GOALS, POINT.
 fn refused_before(a: &Ask) -> Option<Answer> {

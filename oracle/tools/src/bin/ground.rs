@@ -7,12 +7,15 @@
 //!   4  for each direction 0..7: its offset plus one (x, y), the opposite, 1 if diagonal, its cardinals along x and y
 //!      (255, 255 for a cardinal: it splits into nothing, by document 01), six bytes
 //!   5  for each direction 0..7 and eighths 0..7: turned clockwise, counter-clockwise, two bytes
-//!   6  directions between points: a (two i32), b (two i32), answer (u32)
+//!   6  directions between points: a (two i32), b (two i32), answer (u32): 16 * length + 8 * bent + direction, where the length of a
+//!      bent one is the larger difference. Any two points, and after the blocks of kind 8 points in line or nearly so
 //!   7  distances: a, b, answer with diagonals on, answer with diagonals off (u32 each)
 //!   8  scaled distances: a, b, factor's bits (u32), answer with diagonals on, answer with diagonals off
 //! An answer is a value below 2^31, or 2^31 + refusal number + 256 * (0 no point, 1 carries a, 2 carries b).
-//! Refusals are document 01's (POINT, SETTING, SAME); the Rust panics at SAME and has no other.
+//! Refusals are document 01's (POINT, SETTING, SAME); the Rust panics at SAME and has no other. What is bent, and the length, are
+//! document 02's (`tools::judge::course`).
 use grid_util::direction::Direction;
+use grid_util::point::Point;
 use tools::ground::*;
 use tools::list::{Block, List, GROUND};
 use tools::Rng;
@@ -59,14 +62,17 @@ fn compass(out: &mut List) {
     }
     out.put(&b);
 }
-fn round(out: &mut List, r: &mut Rng) {
-    for share in pairs(2000, r).chunks(SHARE) {
+fn headings(out: &mut List, asked: &[(Point, Point)]) {
+    for share in asked.chunks(SHARE) {
         let mut b = Block::of(6);
         for (p, q) in share {
             b.far_point(*p).far_point(*q).u32(heading(*p, *q));
         }
         out.put(&b);
     }
+}
+fn round(out: &mut List, r: &mut Rng) {
+    headings(out, &pairs(2000, r));
     for share in pairs(2000, r).chunks(SHARE) {
         let mut b = Block::of(7);
         for (p, q) in share {
@@ -101,6 +107,8 @@ fn round(out: &mut List, r: &mut Rng) {
         }
         out.put(&b);
     }
+    let in_line: Vec<_> = (0..2000).map(|_| lined(r)).collect();
+    headings(out, &in_line);
 }
 
 fn main() {
