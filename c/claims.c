@@ -1,9 +1,9 @@
 /*
  * What barnsling.h claims beside the answers, tried on the archive: c/run builds and runs it.
  *
- * Empty slices may be null; a refusal writes nothing; which of two points is told for POINT alone; a controller that repeats its
- * orders does no harm through barnsling_grid_gate; which cells of a way the check looks at; an edit that changes nothing stores nothing;
- * and no call takes more stack than the header says.
+ * Empty slices may be null; a refusal writes nothing; which of two points is told for POINT alone; what a direction's answer is made of;
+ * a controller that repeats its orders does no harm through barnsling_grid_gate; which cells of a way the check looks at, and which leg it
+ * names; an edit that changes nothing stores nothing; and no call takes more stack than the header says.
  */
 #define _XOPEN_SOURCE 600
 #include "barnsling.h"
@@ -94,13 +94,43 @@ static void repeated_orders(void)
     claim("and opens", barnsling_grid_blocked_at(&hall, 1, 0) == 0 && barnsling_grid_reachable(&hall, 0, 0, 2, 0) == 1);
 }
 
+/* ---- Directions ----------------------------------------------------------------------------------------------- */
+
+static int heads(uint64_t v, int direction, int bent, int length)
+{
+    return !BARNSLING_REFUSED(v) && BARNSLING_DIRECTION(v) == direction && BARNSLING_BENT(v) == bent && BARNSLING_LENGTH(v) == length;
+}
+
+/* What is left of a refusal for the three macros. */
+static int headless(uint64_t v)
+{
+    return BARNSLING_REFUSED(v) && BARNSLING_DIRECTION(v) == 0 && BARNSLING_BENT(v) == 0 && BARNSLING_LENGTH(v) == 0;
+}
+
+static void headings(void)
+{
+    claim("one step", heads(barnsling_direction(4, 4, 4, 3), 0, 0, 1));
+    claim("a line", heads(barnsling_direction(4, 4, -3, 4), 6, 0, 7));
+    claim("a slant on which x and y go apart is straight", heads(barnsling_direction(0, 0, 3, -3), 1, 0, 3));
+    claim("the larger difference along x", heads(barnsling_direction(0, 0, 5, -1), 1, 1, 5));
+    claim("the larger difference along y", heads(barnsling_direction(0, 0, -4, 5), 5, 1, 5));
+    claim("the longest line", heads(barnsling_direction(-1024, 1023, 1023, 1023), 2, 0, 2047));
+    claim("the longest slant", heads(barnsling_direction(1023, 1023, -1024, -1024), 7, 0, 2047));
+    claim("one off it", heads(barnsling_direction(1023, 1023, -1024, -1023), 7, 1, 2047));
+    claim("the parts make the answer", barnsling_direction(0, 0, 5, -1) == 16 * 5 + 8 * 1 + 1);
+    claim("v & 7 of a straight one", (barnsling_direction(0, 0, 3, -3) & 7) == 1);
+    claim("v & 7 of a bent one", (barnsling_direction(0, 0, -4, 5) & 7) == 5);
+    claim("SAME has no parts", headless(barnsling_direction(1, 1, 1, 1)));
+    claim("POINT has no parts", headless(barnsling_direction(1024, 0, 0, 0)));
+}
+
 /* ---- The whole way -------------------------------------------------------------------------------------------- */
 
-/* The check of a list of three points in the first row, by their columns. */
+/* Whether the way over three points in the first row is clear, by their columns. */
 static uint64_t clear(const struct barnsling_grid *g, int32_t from, int32_t over, int32_t to)
 {
     int32_t list[] = {from, 0, over, 0, to, 0};
-    return barnsling_grid_check_route(g, list, 6).value;
+    return barnsling_grid_check_route(g, list, 6).clear;
 }
 
 static void whole_way(void)
@@ -113,6 +143,32 @@ static void whole_way(void)
     claim("but where the way comes back to it", clear(&hall, 1, 3, 1) == 0);
     claim("nor is one outside", clear(&hall, 4, 3, 2) == 1);
     claim("but what is walked outside after it", clear(&hall, 5, 3, 2) == 0);
+}
+
+static int says(struct barnsling_check c, uint64_t refusal, uint64_t is_clear, uint64_t bent)
+{
+    return c.refusal == refusal && c.clear == is_clear && c.bent == bent;
+}
+
+static void first_bent_leg(void)
+{
+    static struct barnsling_grid hall;
+    static const int32_t slants[] = {0, 2, 2, 0, 3, 1};
+    static const int32_t behind[] = {0, 0, 2, 0, 3, 2};
+    static const int32_t equal[] = {0, 2, 0, 2, 2, 1, 2, 1, 0, 2};
+    static const int32_t at_the_end[] = {0, 2, 2, 2, 2, 2};
+    static const int32_t faulty[] = {3, 2, 2, 0, 4, 1024};
+    struct barnsling_reply path = barnsling_waypoints_to_path(behind, 6, rooms.out, BARNSLING_OUT);
+    barnsling_grid_new(&hall, 4, 3);
+    barnsling_grid_gate(&hall, 1, 0, 1);
+    claim("slants do not bend", says(barnsling_grid_check_route(&hall, slants, 6), 0, 1, 0));
+    claim("a bend is named behind a bench", says(barnsling_grid_check_route(&hall, behind, 6), 0, 0, 2));
+    claim("its path names none", says(barnsling_grid_check_route(&hall, rooms.out, 2 * (size_t)path.value), 0, 0, 0));
+    claim("equal points are a leg, and the first bend is named", says(barnsling_grid_check_route(&hall, equal, 10), 0, 1, 2));
+    claim("equal points do not bend", says(barnsling_grid_check_route(&hall, at_the_end, 6), 0, 1, 0));
+    claim("one point has no leg", says(barnsling_grid_check_route(&hall, faulty, 2), 0, 1, 0));
+    claim("LIST names no leg", says(barnsling_grid_check_route(&hall, faulty, 5), BARNSLING_LIST, 0, 0));
+    claim("POINT names no leg", says(barnsling_grid_check_route(&hall, faulty, 6), BARNSLING_POINT, 0, 0));
 }
 
 /* ---- Stores --------------------------------------------------------------------------------------------------- */
@@ -199,7 +255,7 @@ static void small_calls(void)
     for (i = 0; i < 4096; i++)
         sum += barnsling_grid_set(&grid, i % 64, i / 64, i * 7919 % 5 == 0);
     sum += barnsling_grid_rebuild(&grid) + barnsling_grid_neighbours_reachable(&grid, 0, 0, 63, 63);
-    sum += barnsling_grid_check_route(&grid, list, 6).value;
+    sum += barnsling_grid_check_route(&grid, list, 6).bent;
     sum += barnsling_waypoints_to_path(list, 6, rooms.out, BARNSLING_OUT).value;
 }
 
@@ -238,7 +294,9 @@ int main(void)
     null_lists();
     refusals();
     repeated_orders();
+    headings();
     whole_way();
+    first_bent_leg();
     stores();
     stacks();
     printf("c/claims: %d of the header's claims tried, %d broken\n", claims, broken);

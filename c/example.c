@@ -106,10 +106,24 @@ static void nearest_table(void)
 /* Whether the way along the waypoints is clear: every cell of it, between them too. */
 static const char *clear(size_t numbers)
 {
-    return barnsling_grid_check_route(&grid, rooms.out, numbers).value ? "clear" : "not clear";
+    return barnsling_grid_check_route(&grid, rooms.out, numbers).clear ? "clear" : "not clear";
 }
 
-/* Every cell of the way, for the cart's own controller, and whether it is clear, which the waypoints themselves are asked. */
+/* The first leg that is not one straight line, so that the cart turns between two waypoints. */
+static void first_bend(size_t numbers)
+{
+    size_t leg = (size_t)barnsling_grid_check_route(&grid, rooms.out, numbers).bent;
+    if (leg == 0) {
+        printf("No leg is bent.\n");
+    } else {
+        const int32_t *from = rooms.out + 2 * (leg - 1);
+        printf("The first bent leg is leg %d, from (%d,%d) to (%d,%d).\n",
+            (int)leg, (int)from[0], (int)from[1], (int)from[2], (int)from[3]);
+    }
+}
+
+/* Every cell of the way, for the cart's own controller, and what the waypoints themselves are asked: whether the way is clear, and where
+   it bends. */
 static void walk(const struct barnsling_route *r)
 {
     static int32_t path[BARNSLING_PATH];
@@ -119,6 +133,7 @@ static void walk(const struct barnsling_route *r)
         return;
     printf("The path has %d cells, and the way is %s.\n", (int)p.value, clear(numbers));
     draw(path, (size_t)p.value);
+    first_bend(numbers);
 
     barnsling_grid_gate(&grid, GATE_X, GATE_Y, 1);
     printf("The gate shuts while the cart is under way: the way is %s.\n", clear(numbers));

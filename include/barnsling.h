@@ -49,7 +49,7 @@ extern "C" {
 
 /* The number of this interface. It rises where a declaration, what an answer says or its form, or a refusal's number changes: a
    program that was built with another number than the archive's must be built anew. */
-#define BARNSLING_VERSION 3
+#define BARNSLING_VERSION 4
 
 /* The archive's number. Ask it once, and go on only if it is BARNSLING_VERSION. */
 uint32_t barnsling_version(void);
@@ -121,8 +121,18 @@ uint8_t barnsling_forced_mask(uint8_t neighbours);
 /* The directions that a search follows from a cell with this neighbour mask, having come in a direction (read modulo 8). */
 uint8_t barnsling_pruned_mask(uint8_t diagonal, uint8_t direction, uint8_t neighbours);
 
-/* The direction from a to b, 0 to 7: by the signs of the differences, aligned or not. Refuses POINT, SAME. */
+/* How b lies from a: 16 * length + 8 * bent + direction, which the three macros below take apart. Refuses POINT, SAME.
+   The direction, 0 to 7, goes by the signs of the differences. Straight, bent 0: the two are in line, that is, one difference is 0 or both
+   are equal in size, whatever a grid's diagonal flag is; length equal steps of the direction lead from a to b. Bent, bent 1: no number of
+   equal steps leads there, and length is the larger difference. Either way length is how many steps the path from a to b takes.
+   Up to version 3 the answer was the direction alone. A program that reads it by v & 7 still reads the direction; one that uses v itself,
+   for an index say, has to take BARNSLING_DIRECTION(v). */
 uint64_t barnsling_direction(int32_t ax, int32_t ay, int32_t bx, int32_t by);
+
+/* The parts of its answer, all 0 where it is a refusal. */
+#define BARNSLING_DIRECTION(v) ((int)((v) & 7))             /* 0 to 7 */
+#define BARNSLING_BENT(v) ((int)(((v) >> 3) & 1))           /* 1 bent, 0 straight */
+#define BARNSLING_LENGTH(v) ((int)(((v) >> 4) & 0xfffffff)) /* how many steps lead there */
 
 /* The distance from a to b on an empty floor; a straight step costs 70, a diagonal one 99. Refuses POINT. */
 uint64_t barnsling_distance(uint8_t diagonal, int32_t ax, int32_t ay, int32_t bx, int32_t by);
@@ -266,22 +276,33 @@ uint64_t barnsling_pruned_at(
     const uint8_t *rank, size_t rank_len, size_t width, size_t height,
     uint8_t diagonal, int32_t x, int32_t y, uint8_t direction);
 
-/* An answer that may be about a point. */
+/* What the expansion of a list answers. */
 struct barnsling_reply {
     uint64_t refusal; /* 0, or enum barnsling_refusal */
-    uint64_t value;   /* 0 where refused */
+    uint64_t value;   /* the points written; 0 where refused */
     int32_t x, y;     /* the point that POINT is about, else 0 */
 };
 
-/* Every cell on the way along a waypoint list, x and y in turn. value: the points written to out, whose rest is kept.
+/* Every cell on the way along a waypoint list, x and y in turn, written to out, whose rest is kept.
    Refuses LIST, POINT, ROOM. The grid is not looked at. */
 struct barnsling_reply barnsling_waypoints_to_path(const int32_t *list, size_t list_len, int32_t *out, size_t out_len);
 
-/* Whether the way along a waypoint list is clear now: every cell of its path (barnsling_waypoints_to_path) after the first point is
-   inside and free. value: 1 clear, 0 not. Refuses STATE, LIST, POINT.
-   It needs no room, and stops at the first cell that is not free. The first point may be blocked or outside; it is looked at only if
-   the way comes back to it. Checking the path that was written says the same as checking the list (proved). */
-struct barnsling_reply barnsling_check_route(
+/* What a route check answers. Refused: clear and bent are 0. */
+struct barnsling_check {
+    uint64_t refusal; /* 0, or enum barnsling_refusal */
+    uint64_t clear;   /* 1 clear, 0 not */
+    uint64_t bent;    /* the first bent leg, from 1; 0 where no leg is bent */
+    int32_t x, y;     /* the point that POINT is about, else 0 */
+};
+
+/* Whether the way along a waypoint list is clear now, and which leg of it is the first that bends. Refuses STATE, LIST, POINT.
+   clear: every cell of its path (barnsling_waypoints_to_path) after the first point is inside and free. The first point may be blocked
+   or outside; it is looked at only if the way comes back to it. The check needs no room, and walks no further than the first cell that
+   is not free.
+   bent: leg k goes from point k of the list to point k + 1, counted from 1, and is bent where the two are not in line
+   (barnsling_direction). It is named whether or not the way is clear. A leg between equal points counts, and is not bent.
+   Checking the path that was written says the same of clear, and names no leg (proved). */
+struct barnsling_check barnsling_check_route(
     const uint8_t *blocked, size_t blocked_len, const uint16_t *parent, size_t parent_len,
     const uint8_t *rank, size_t rank_len, size_t width, size_t height, const int32_t *list, size_t list_len);
 
@@ -511,8 +532,8 @@ static inline uint64_t barnsling_grid_pruned_at(const struct barnsling_grid *g, 
         g->settings.diagonal, x, y, direction);
 }
 
-/* Whether the way along a waypoint list is clear now. Refuses LIST, POINT. */
-static inline struct barnsling_reply barnsling_grid_check_route(
+/* Whether the way along a waypoint list is clear now, and its first bent leg. Refuses LIST, POINT. */
+static inline struct barnsling_check barnsling_grid_check_route(
     const struct barnsling_grid *g, const int32_t *list, size_t list_len)
 {
     return barnsling_check_route(
