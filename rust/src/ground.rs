@@ -1,5 +1,8 @@
 //! Masks, directions and distances.
-use crate::raw::{self, answers::value};
+use crate::raw::{
+    self,
+    answers::{heading, value},
+};
 use crate::{Point, Refusal};
 
 /// The forced mask of a neighbour mask: the directions in which something beside the cell is blocked.
@@ -22,17 +25,87 @@ pub fn pruned_mask(diagonal: bool, direction: u8, neighbours: u8) -> u8 {
     raw::pruned_mask(diagonal, direction, neighbours)
 }
 
-/// The direction from one point to another, by the signs of the differences: 0 to 7, clockwise from north. Refuses POINT, SAME.
+/// How one point lies from another. Directions are 0 to 7, clockwise from north.
 ///
 /// ```
-/// use barnsling::{direction, Point, Refusal};
+/// use barnsling::{direction, Heading, Point};
+/// match direction(Point::new(0, 0), Point::new(3, -3))? {
+///     Heading::Straight { direction, length } => assert_eq!((direction, length), (1, 3)),
+///     Heading::Bent { .. } => unreachable!(),
+/// }
+/// # Ok::<(), barnsling::Refusal>(())
+/// ```
+#[derive(Clone, Copy, Debug, PartialEq, Eq, Hash)]
+pub enum Heading {
+    /// In line: one difference is 0, or both are equal in size, whatever a grid's diagonal setting is.
+    Straight {
+        /// The direction of every step.
+        direction: u8,
+        /// How many steps of it lead there.
+        length: u32,
+    },
+    /// Not in line: no number of equal steps leads there.
+    Bent {
+        /// The direction by the signs of the differences, which is that of the first step.
+        direction: u8,
+        /// The larger difference.
+        larger: u32,
+    },
+}
+
+impl Heading {
+    /// The direction by the signs of the differences, 0 to 7.
+    ///
+    /// ```
+    /// use barnsling::{direction, Point};
+    /// assert_eq!(direction(Point::new(4, 4), Point::new(9, 5))?.direction(), 3);
+    /// # Ok::<(), barnsling::Refusal>(())
+    /// ```
+    pub const fn direction(self) -> u8 {
+        match self {
+            Heading::Straight { direction, .. } | Heading::Bent { direction, .. } => direction,
+        }
+    }
+
+    /// How many steps lead there, straight or bent: one less than the points of [`waypoints_to_path`](crate::waypoints_to_path).
+    ///
+    /// ```
+    /// use barnsling::{direction, Point};
+    /// assert_eq!(direction(Point::new(4, 4), Point::new(9, 5))?.steps(), 5);
+    /// # Ok::<(), barnsling::Refusal>(())
+    /// ```
+    pub const fn steps(self) -> u32 {
+        match self {
+            Heading::Straight { length, .. } => length,
+            Heading::Bent { larger, .. } => larger,
+        }
+    }
+
+    /// Whether the two points are not in line.
+    ///
+    /// ```
+    /// use barnsling::{direction, Point};
+    /// assert!(direction(Point::new(4, 4), Point::new(9, 5))?.is_bent());
+    /// assert!(!direction(Point::new(4, 4), Point::new(9, 9))?.is_bent());
+    /// # Ok::<(), barnsling::Refusal>(())
+    /// ```
+    pub const fn is_bent(self) -> bool {
+        matches!(self, Heading::Bent { .. })
+    }
+}
+
+/// How one point lies from another: straight with direction and length, or bent with the direction by the signs of the differences
+/// and the larger difference. Refuses POINT, SAME.
+///
+/// ```
+/// use barnsling::{direction, Heading, Point, Refusal};
 /// let a = Point::new(4, 4);
-/// assert_eq!(direction(a, Point::new(4, 0)), Ok(0));
-/// assert_eq!(direction(a, Point::new(9, 5)), Ok(3));
+/// assert_eq!(direction(a, Point::new(4, 0)), Ok(Heading::Straight { direction: 0, length: 4 }));
+/// assert_eq!(direction(a, Point::new(9, 5)), Ok(Heading::Bent { direction: 3, larger: 5 }));
 /// assert_eq!(direction(a, a), Err(Refusal::Same(a)));
 /// ```
-pub fn direction(a: Point, b: Point) -> Result<u8, Refusal> {
-    value(raw::direction(a, b), a, b).map(|d| d as u8)
+pub fn direction(a: Point, b: Point) -> Result<Heading, Refusal> {
+    heading(raw::direction(a, b), a, b)
 }
 
 /// The distance between two points on an empty floor: 70 a straight step, 99 a diagonal one. Refuses POINT.

@@ -26,7 +26,7 @@
 //! let mut rooms = Rooms::new();
 //! let route = floor.single_goal(&mut rooms, west, east)?;
 //! assert_eq!(route.waypoints.last(), Some(&east));
-//! assert!(floor.check_route(&route.waypoints)?);
+//! assert!(floor.check_route(&route.waypoints)?.clear);
 //!
 //! // The gate shuts. The yes is hopeful now; the search finds out.
 //! floor.gate(door, true)?;
@@ -69,13 +69,13 @@ mod tables;
 mod walks;
 
 pub use grid::Grid;
-pub use ground::{direction, distance, forced_mask, pruned_mask, scaled_distance};
+pub use ground::{direction, distance, forced_mask, pruned_mask, scaled_distance, Heading};
 pub use point::Point;
 pub use refusal::Refusal;
 pub use search::{Rooms, Route, SearchError};
 pub use settings::{Limits, Settings};
 pub use tables::Tables;
-pub use walks::{route_text, waypoints_to_path};
+pub use walks::{route_text, waypoints_to_path, Check};
 
 /// The README's example is compiled as a test.
 #[cfg(doctest)]

@@ -75,26 +75,54 @@ impl Route {
     }
 }
 
+/// What a route check says of the way along a waypoint list.
+///
+/// ```
+/// use barnsling::{Check, Grid, Point};
+/// let floor = Grid::new(3, 2)?;
+/// let list = [Point::new(0, 0), Point::new(1, 1), Point::new(3, 0)];
+/// let check: Check = floor.check_route(&list)?;
+/// assert!(!check.clear);
+/// let leg = check.first_bent.unwrap();
+/// assert_eq!((list[leg - 1], list[leg]), (Point::new(1, 1), Point::new(3, 0)));
+/// # Ok::<(), barnsling::Refusal>(())
+/// ```
+#[derive(Clone, Copy, Debug, PartialEq, Eq)]
+#[non_exhaustive]
+pub struct Check {
+    /// Whether every cell of the path after the first point is inside the grid and free.
+    pub clear: bool,
+    /// The first leg whose two points are not in line, from 1: leg k goes from `list[k - 1]` to `list[k]`.
+    pub first_bent: Option<usize>,
+}
+
 /// Routes checked, and the masks of a cell; bit d of a mask stands for direction d.
 impl Grid {
-    /// Whether the way along a waypoint list is clear now: every cell of its path ([`waypoints_to_path`]) after the first point is
-    /// inside the grid and free. Refuses STATE, LIST, POINT.
+    /// Whether the way along a waypoint list is clear now, and its first bent leg. Refuses STATE, LIST, POINT.
     ///
-    /// It needs no room, and stops at the first cell that is not free. The first point may be blocked or outside; it is looked at only
-    /// if the way comes back to it. Checking [`Route::path`] says the same as checking [`Route::waypoints`].
+    /// Clear: every cell of its path ([`waypoints_to_path`]) after the first point is inside the grid and free. The first point may be
+    /// blocked or outside; it is looked at only if the way comes back to it. The check needs no room, and walks no further than the
+    /// first cell that is not free.
+    ///
+    /// Bent: the two points of a leg are not in line ([`direction`](crate::direction)). The first such leg is named whether or not the
+    /// way is clear. A leg between equal points counts, and is not bent.
+    ///
+    /// Checking [`Route::path`] says the same of `clear` as checking [`Route::waypoints`], and names no leg.
     ///
     /// ```
     /// use barnsling::{Grid, Point, Rooms};
     /// let mut floor = Grid::new(9, 1)?;
     /// floor.rebuild()?;
     /// let route = floor.multiple_goals(&mut Rooms::new(), Point::new(0, 0), &[Point::new(8, 0)])?;
-    /// assert_eq!(floor.check_route(&route.waypoints), Ok(true));
+    /// let check = floor.check_route(&route.waypoints)?;
+    /// assert_eq!((check.clear, check.first_bent), (true, None));
     /// floor.set(Point::new(4, 0), true)?;
-    /// assert_eq!(floor.check_route(&route.waypoints), Ok(false));
-    /// assert_eq!(floor.check_route(&[Point::new(0, 0), Point::new(8, 0)]), Ok(false));
+    /// assert!(!floor.check_route(&route.waypoints)?.clear);
+    /// let check = floor.check_route(&[Point::new(0, 0), Point::new(8, 0), Point::new(8, 0), Point::new(6, 1)])?;
+    /// assert_eq!((check.clear, check.first_bent), (false, Some(3)));
     /// # Ok::<(), barnsling::Refusal>(())
     /// ```
-    pub fn check_route(&self, list: &[Point]) -> Result<bool, Refusal> {
+    pub fn check_route(&self, list: &[Point]) -> Result<Check, Refusal> {
         lent::check_route(self.tables.cells(), numbers(list))
     }
 

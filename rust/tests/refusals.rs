@@ -64,7 +64,7 @@ fn errors_print_once() {
 /// Whatever number an archive answers, the crate gives a value or a refusal.
 #[test]
 fn numbers_without_a_name() {
-    use barnsling::raw::{answers, Answer, Reply};
+    use barnsling::raw::{self, answers, Answer, Reply};
     let (a, b) = (at(1, 2), at(3, 4));
     assert_eq!(answers::value(0xffff_ffff, a, b), Ok(u32::MAX));
     assert_eq!(
@@ -96,6 +96,23 @@ fn numbers_without_a_name() {
         y: 0,
     };
     assert_eq!(answers::listed(reply), Err(Refusal::Unknown(255)));
+    let mut check = raw::Check {
+        refusal: 15,
+        clear: u64::MAX,
+        bent: u64::MAX,
+        x: 0,
+        y: 0,
+    };
+    assert_eq!(answers::checked(check), Err(Refusal::Unknown(15)));
+    check.refusal = 0;
+    let checked = answers::checked(check).unwrap();
+    assert_eq!(
+        (checked.clear, checked.first_bent),
+        (true, Some(usize::MAX))
+    );
+    assert!(answers::heading(u64::MAX, a, b).is_err());
+    let heading = answers::heading(0xffff_ffff, a, b).unwrap();
+    assert_eq!((heading.direction(), heading.steps()), (7, (1 << 28) - 1));
     let mut answer = Answer {
         refusal: 256,
         pops: u64::MAX,

@@ -4,6 +4,10 @@ use barnsling::*;
 fn at(x: i32, y: i32) -> Point {
     Point::new(x, y)
 }
+/// Whether the way along a list is clear.
+fn clear(floor: &Grid, list: &[Point]) -> Result<bool, Refusal> {
+    floor.check_route(list).map(|check| check.clear)
+}
 
 #[test]
 fn paths() {
@@ -58,12 +62,12 @@ fn long_paths() {
     assert_eq!((path[0], path.last()), (at(0, 0), Some(&at(0, 62))));
     assert_eq!(path.len(), 32 * 64 + 31);
     // the path and the waypoints are of one mind, whichever cell of the way is blocked
-    assert_eq!(floor.check_route(&path), Ok(true));
-    assert_eq!(floor.check_route(&route.waypoints), Ok(true));
+    assert_eq!(clear(&floor, &path), Ok(true));
+    assert_eq!(clear(&floor, &route.waypoints), Ok(true));
     for cell in &path[1..] {
         assert_eq!(floor.gate(*cell, true), Ok(true));
-        assert_eq!(floor.check_route(&path), Ok(false));
-        assert_eq!(floor.check_route(&route.waypoints), Ok(false));
+        assert_eq!(clear(&floor, &path), Ok(false));
+        assert_eq!(clear(&floor, &route.waypoints), Ok(false));
         floor.gate(*cell, false).unwrap();
     }
 
@@ -79,13 +83,13 @@ fn long_paths() {
 fn checks() {
     let mut floor = Grid::new(3, 2).unwrap();
     let list = [at(0, 0), at(1, 1), at(2, 0)];
-    assert_eq!(floor.check_route(&list), Ok(true));
+    assert_eq!(clear(&floor, &list), Ok(true));
     floor.set(at(0, 0), true).unwrap();
-    assert_eq!(floor.check_route(&list), Ok(true));
+    assert_eq!(clear(&floor, &list), Ok(true));
     floor.set(at(1, 1), true).unwrap();
-    assert_eq!(floor.check_route(&list), Ok(false));
-    assert_eq!(floor.check_route(&[at(5, 5)]), Ok(true));
-    assert_eq!(floor.check_route(&[at(0, 0), at(3, 0)]), Ok(false));
+    assert_eq!(clear(&floor, &list), Ok(false));
+    assert_eq!(clear(&floor, &[at(5, 5)]), Ok(true));
+    assert_eq!(clear(&floor, &[at(0, 0), at(3, 0)]), Ok(false));
     assert_eq!(floor.check_route(&[]), Err(Refusal::List));
     assert_eq!(
         floor.check_route(&[at(0, 1024)]),
@@ -104,28 +108,25 @@ fn checks() {
 fn the_whole_way() {
     let mut floor = Grid::new(3, 1).unwrap();
     // from outside: (-1,0) is walked and outside, but one step in is clear
-    assert_eq!(floor.check_route(&[at(-2, 0), at(1, 0)]), Ok(false));
-    assert_eq!(floor.check_route(&[at(-1, 0), at(1, 0)]), Ok(true));
-    assert_eq!(floor.check_route(&[at(-1024, 1023), at(1, 0)]), Ok(false));
+    assert_eq!(clear(&floor, &[at(-2, 0), at(1, 0)]), Ok(false));
+    assert_eq!(clear(&floor, &[at(-1, 0), at(1, 0)]), Ok(true));
+    assert_eq!(clear(&floor, &[at(-1024, 1023), at(1, 0)]), Ok(false));
     // a bench at the first point: not looked at, also where the list repeats it, unless the walk comes back
     floor.set(at(0, 0), true).unwrap();
-    assert_eq!(floor.check_route(&[at(0, 0), at(0, 0)]), Ok(true));
-    assert_eq!(floor.check_route(&[at(0, 0), at(2, 0)]), Ok(true));
-    assert_eq!(
-        floor.check_route(&[at(0, 0), at(2, 0), at(0, 0)]),
-        Ok(false)
-    );
+    assert_eq!(clear(&floor, &[at(0, 0), at(0, 0)]), Ok(true));
+    assert_eq!(clear(&floor, &[at(0, 0), at(2, 0)]), Ok(true));
+    assert_eq!(clear(&floor, &[at(0, 0), at(2, 0), at(0, 0)]), Ok(false));
     // a bench between two free waypoints
     floor.set(at(0, 0), false).unwrap();
     floor.set(at(1, 0), true).unwrap();
-    assert_eq!(floor.check_route(&[at(0, 0), at(2, 0)]), Ok(false));
-    assert_eq!(floor.check_route(&[at(2, 0), at(0, 0)]), Ok(false));
+    assert_eq!(clear(&floor, &[at(0, 0), at(2, 0)]), Ok(false));
+    assert_eq!(clear(&floor, &[at(2, 0), at(0, 0)]), Ok(false));
     // a bent leg steps both coordinates while both differ, then one: (1,1), (2,1)
     let mut floor = Grid::new(3, 2).unwrap();
     floor.set(at(1, 0), true).unwrap();
-    assert_eq!(floor.check_route(&[at(0, 0), at(2, 1)]), Ok(true));
+    assert_eq!(clear(&floor, &[at(0, 0), at(2, 1)]), Ok(true));
     floor.set(at(1, 1), true).unwrap();
-    assert_eq!(floor.check_route(&[at(0, 0), at(2, 1)]), Ok(false));
+    assert_eq!(clear(&floor, &[at(0, 0), at(2, 1)]), Ok(false));
     // several faults: the list before its points, the first bad point before what is blocked
     assert_eq!(
         lent::check_route(floor.tables().cells(), &[0, 1024, 0]),

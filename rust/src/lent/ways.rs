@@ -2,9 +2,9 @@
 use super::{Cells, Room};
 use crate::raw::{
     self,
-    answers::{found, listed, plain},
+    answers::{checked, found, listed, plain},
 };
-use crate::{Point, Refusal, SearchError, Settings};
+use crate::{Check, Point, Refusal, SearchError, Settings};
 
 /// What a search found: the first `2 * waypoints` numbers of the room's `out` are the waypoints, x and y in turn.
 ///
@@ -105,21 +105,22 @@ pub fn waypoints_to_path(list: &[i32], out: &mut [i32]) -> Result<usize, Refusal
     listed(raw::waypoints_to_path(list, out))
 }
 
-/// Whether the way along a waypoint list, x and y in turn, is clear now: every cell of its path after the first point is inside and
-/// free. Refuses STATE, LIST, POINT.
+/// Whether the way along a waypoint list, x and y in turn, is clear now, every cell of its path after the first point inside and
+/// free; and its first bent leg, whether or not it is clear. Refuses STATE, LIST, POINT.
 ///
 /// ```
 /// use barnsling::{lent, Grid, Point};
 /// let mut floor = Grid::new(3, 1)?;
-/// assert_eq!(lent::check_route(floor.tables().cells(), &[0, 0, 2, 0]), Ok(true));
-/// assert_eq!(lent::check_route(floor.tables().cells(), &[0, 0, 3, 0]), Ok(false));
+/// assert!(lent::check_route(floor.tables().cells(), &[0, 0, 2, 0])?.clear);
+/// assert!(!lent::check_route(floor.tables().cells(), &[0, 0, 3, 0])?.clear);
 /// floor.set(Point::new(1, 0), true)?;
-/// assert_eq!(lent::check_route(floor.tables().cells(), &[0, 0, 2, 0]), Ok(false));
+/// let check = lent::check_route(floor.tables().cells(), &[0, 0, 2, 0, 3, 2])?;
+/// assert_eq!((check.clear, check.first_bent), (false, Some(2)));
 /// # Ok::<(), barnsling::Refusal>(())
 /// ```
 #[inline]
-pub fn check_route(t: Cells<'_>, list: &[i32]) -> Result<bool, Refusal> {
-    listed(raw::check_route(t, list)).map(|v| v != 0)
+pub fn check_route(t: Cells<'_>, list: &[i32]) -> Result<Check, Refusal> {
+    checked(raw::check_route(t, list))
 }
 
 /// The bytes of room that [`route_text`] wants.

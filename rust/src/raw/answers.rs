@@ -5,7 +5,7 @@
 
 use super::{Answer, Reply};
 use crate::lent::{Found, VERSION};
-use crate::{Point, Refusal, SearchError};
+use crate::{Check, Heading, Point, Refusal, SearchError};
 
 /// The value, or the refusal with the one of two points that it concerns.
 pub fn value(answer: u64, first: Point, second: Point) -> Result<u32, Refusal> {
@@ -27,21 +27,49 @@ pub fn yes(answer: u64, start: Point, goal: Point) -> Result<bool, Refusal> {
     value(answer, start, goal).map(|v| v != 0)
 }
 
-/// The value of a call on a list.
-pub fn listed(reply: Reply) -> Result<usize, Refusal> {
-    if reply.refusal != 0 {
-        return Err(Refusal::of(reply.refusal, Point::new(reply.x, reply.y)));
+/// How one point lies from another.
+pub fn heading(answer: u64, a: Point, b: Point) -> Result<Heading, Refusal> {
+    let v = value(answer, a, b)?;
+    let (direction, steps) = ((v & 7) as u8, v >> 4);
+    Ok(match v & 8 {
+        0 => Heading::Straight {
+            direction,
+            length: steps,
+        },
+        _ => Heading::Bent {
+            direction,
+            larger: steps,
+        },
+    })
+}
+
+/// The refusal of an answer, by its number; 0 is none.
+fn accepted(refusal: u64, x: i32, y: i32) -> Result<(), Refusal> {
+    match refusal {
+        0 => Ok(()),
+        number => Err(Refusal::of(number, Point::new(x, y))),
     }
+}
+
+/// How many points a list was expanded to.
+pub fn listed(reply: Reply) -> Result<usize, Refusal> {
+    accepted(reply.refusal, reply.x, reply.y)?;
     Ok(reply.value as usize)
+}
+
+/// What a route check says.
+pub fn checked(check: super::Check) -> Result<Check, Refusal> {
+    accepted(check.refusal, check.x, check.y)?;
+    Ok(Check {
+        clear: check.clear != 0,
+        first_bent: (check.bent != 0).then_some(check.bent as usize),
+    })
 }
 
 /// What a search found.
 pub fn found(a: Answer) -> Result<Found, SearchError> {
     let pops = a.pops as u32;
-    if a.refusal != 0 {
-        let refusal = Refusal::of(a.refusal, Point::new(a.x, a.y));
-        return Err(SearchError { refusal, pops });
-    }
+    accepted(a.refusal, a.x, a.y).map_err(|refusal| SearchError { refusal, pops })?;
     Ok(Found {
         pops,
         cost: a.cost,

@@ -18,7 +18,7 @@ pub mod answers;
 mod paths;
 pub use paths::{
     blocked_at, check_route, forced_at, neighbours_at, pruned_at, route_text, waypoints_to_path,
-    Reply,
+    Check, Reply,
 };
 
 #[rustfmt::skip]
@@ -134,7 +134,7 @@ pub fn pruned_mask(diagonal: bool, direction: u8, neighbours: u8) -> u8 {
     unsafe { barnsling_pruned_mask(diagonal as u8, direction, neighbours) }
 }
 
-/// See [`direction`](crate::direction). Refuses POINT, SAME.
+/// See [`direction`](crate::direction): 16 times the steps, 8 more where bent, and the direction. Refuses POINT, SAME.
 #[inline]
 pub fn direction(a: Point, b: Point) -> u64 {
     unsafe { barnsling_direction(a.x, a.y, b.x, b.y) }

@@ -24,18 +24,34 @@ extern "C" {
     fn barnsling_check_route(
         blocked: *const u8, blocked_len: usize, parent: *const u16, parent_len: usize, rank: *const u8, rank_len: usize,
         width: usize, height: usize, list: *const i32, list_len: usize,
-    ) -> Reply;
+    ) -> Check;
     fn barnsling_route_text(text: *const u8, text_len: usize, out: *mut u8, out_len: usize) -> u64;
 }
 
-/// An answer that may be about a point, as numbers.
+/// What the expansion of a list answers, as numbers.
 #[repr(C)]
 #[derive(Clone, Copy, Debug, PartialEq, Eq)]
 pub struct Reply {
     /// 0, or the refusal's number.
     pub refusal: u64,
-    /// 0 where refused.
+    /// How many points were written; 0 where refused.
     pub value: u64,
+    /// The point that POINT carries, else 0.
+    pub x: i32,
+    /// Its row.
+    pub y: i32,
+}
+
+/// What a route check answers, as numbers.
+#[repr(C)]
+#[derive(Clone, Copy, Debug, PartialEq, Eq)]
+pub struct Check {
+    /// 0, or the refusal's number.
+    pub refusal: u64,
+    /// 1 where the way is clear, else 0; 0 where refused.
+    pub clear: u64,
+    /// The first bent leg, from 1; 0 where none is bent, and where refused.
+    pub bent: u64,
     /// The point that POINT carries, else 0.
     pub x: i32,
     /// Its row.
@@ -126,9 +142,9 @@ pub fn waypoints_to_path(list: &[i32], out: &mut [i32]) -> Reply {
     unsafe { barnsling_waypoints_to_path(list.as_ptr(), list.len(), out.as_mut_ptr(), out.len()) }
 }
 
-/// Whether every cell of the path after the first point is inside and free: `value` 1 or 0. Refuses STATE, LIST, POINT.
+/// Whether every cell of the path after the first point is inside and free, and the first bent leg. Refuses STATE, LIST, POINT.
 #[inline]
-pub fn check_route(t: Cells<'_>, list: &[i32]) -> Reply {
+pub fn check_route(t: Cells<'_>, list: &[i32]) -> Check {
     unsafe {
         barnsling_check_route(
             t.blocked.as_ptr(),
