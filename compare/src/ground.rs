@@ -2,8 +2,10 @@
 use crate::lent::at;
 use crate::Tally;
 use barnsling::raw;
+use grid_util::point::Point;
 use tools::ground::{
-    any_factor, any_point, distance, forced, heading, pruned, refused_factors, scaled, REFUSED,
+    any_factor, any_point, distance, forced, heading, lined, pruned, refused_factors, scaled,
+    REFUSED,
 };
 use tools::Rng;
 
@@ -32,15 +34,47 @@ pub fn masks(t: &mut Tally, _: &mut Rng) {
         t.step();
     }
 }
+/// The direction from one point to another, with its kind and length.
+fn direction(t: &mut Tally, a: Point, b: Point) {
+    let rust = packed(heading(a, b));
+    t.hold(rust, raw::direction(at(a), at(b)), || {
+        format!("{a:?} {b:?}")
+    });
+    t.step();
+}
+
+/// The largest of the differences that are all asked.
+const NEAR: i32 = 60;
+/// Where they start, along each axis: at both ends of the range, from which some lead out, so far within that none does, and in the middle.
+const STARTS: [i32; 5] = [-1024, NEAR - 1024, 0, 1023 - NEAR, 1023];
+/// How many pairs that makes.
+pub const NEAR_PAIRS: u64 = (STARTS.len() as i32 * (2 * NEAR + 1)).pow(2) as u64;
+
+/// Every small difference, from each start.
+pub fn near_directions(t: &mut Tally, _: &mut Rng) {
+    let along = || {
+        STARTS
+            .into_iter()
+            .flat_map(|a| (-NEAR..=NEAR).map(move |d| (a, a + d)))
+    };
+    for (ay, by) in along() {
+        for (ax, bx) in along() {
+            direction(t, Point::new(ax, ay), Point::new(bx, by));
+        }
+    }
+}
+/// Any two points, the same point twice, and points in line or nearly so.
 pub fn directions(t: &mut Tally, r: &mut Rng) {
     while t.more() {
         let a = any_point(r);
-        let b = if r.pct(5) { a } else { any_point(r) };
-        let rust = packed(heading(a, b));
-        t.hold(rust, raw::direction(at(a), at(b)), || {
-            format!("{a:?} {b:?}")
-        });
-        t.step();
+        match r.below(20) {
+            0 => direction(t, a, a),
+            1..=10 => direction(t, a, any_point(r)),
+            _ => {
+                let (a, b) = lined(r);
+                direction(t, a, b);
+            }
+        }
     }
 }
 pub fn distances(t: &mut Tally, r: &mut Rng) {

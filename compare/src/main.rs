@@ -88,6 +88,11 @@ fn compare(seed: u64, ground: u64, steps: u64, searches: u64, texts: u64) -> boo
     let mut r = tools::Rng(seed);
     let kinds: Vec<(&str, Kind, u64)> = vec![
         ("masks", ground::masks, 256),
+        (
+            "near directions",
+            ground::near_directions,
+            ground::NEAR_PAIRS,
+        ),
         ("directions", ground::directions, ground),
         ("distances", ground::distances, ground),
         ("tables", tables::steps, steps),

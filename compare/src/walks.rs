@@ -1,4 +1,4 @@
-//! Paths, route checks, map texts and what the tables hold of a cell. The path is the Rust's; what is clear is document 02's, the text's form and the refusals are document 01's.
+//! Paths, route checks, map texts and what the tables hold of a cell. The path is the Rust's; what is clear and what is bent are document 02's, the text's form and the refusals are document 01's.
 use crate::lent::{at, fewer, Lent, POINT, STATE};
 use crate::Tally;
 use barnsling::lent::TEXT_ROOM;
@@ -6,7 +6,7 @@ use barnsling::raw::{self, Reply};
 use grid_pathfinding::waypoints_to_path;
 use grid_util::point::Point;
 use tools::ground::pruned;
-use tools::judge::{clear, list_refused, Tables};
+use tools::judge::{check, list_refused, Check, Tables};
 use tools::make::{
     any_numbers, any_tables, check_numbers, damage, gen_map, illegal_tables, points_of, text_case,
 };
@@ -82,7 +82,18 @@ fn some_tables(r: &mut Rng, tables_read: &[usize]) -> (Tables, Lent, bool) {
     (tables, ours, !tables_read.contains(&k))
 }
 
-/// The reply, by the judge's two walks; and that no table is written.
+/// The judge's answer as it crosses the boundary.
+fn checked(judge: Check) -> raw::Check {
+    raw::Check {
+        refusal: judge.result as u64,
+        clear: judge.clear as u64,
+        bent: judge.bent as u64,
+        x: judge.point.x,
+        y: judge.point.y,
+    }
+}
+
+/// Whether the way is clear, its first bent leg, or the refusal with its point; and that no table is written.
 pub fn checks(t: &mut Tally, r: &mut Rng) {
     while t.more() {
         let (tables, ours, legal) = some_tables(r, &[0, 3, 4]);
@@ -94,17 +105,14 @@ pub fn checks(t: &mut Tally, r: &mut Rng) {
             } else {
                 any_numbers(6, w.max(1), h.max(1), r)
             };
-            let no = if legal {
-                list_refused(&v).unwrap_or(ACCEPTED)
+            let judge = if legal {
+                check(w, h, &blocked, &v)
             } else {
-                (2, Point::new(0, 0))
+                Check::refused(2, Point::new(0, 0))
             };
-            let clear = no.0 == 0 && clear(w, h, &blocked, &points_of(&v));
+            *t.results.entry(judge.result).or_default() += 1;
             let got = raw::check_route(ours.cells(), &v);
-            t.hold(reply(no, clear as u64), got, || {
-                format!("check {v:?} on {tables:?}")
-            });
-            *t.results.entry(no.0).or_default() += 1;
+            t.hold(checked(judge), got, || format!("check {v:?} on {tables:?}"));
             t.step();
         }
         t.hold(&tables, &ours.tables(), || format!("written {tables:?}"));
