@@ -1,38 +1,30 @@
--- The first bent leg of a list of waypoints: a list of numbers, x and y in turn. Leg k goes from waypoint k to waypoint k + 1.
--- Assumes nothing: these are definitions and a statement.
-use mathlib.Core.Path.{_≡_}
-use mathlib.Core.Bool.{Bool, true, false, cond}
-use mathlib.Core.List.{List, [], _∷_}
-use Prim.Native.Nat.{ℕ, _+_, _*_, _-_, _<_}
-use lib.IntN.{ℤ}
-use lib.ListN.{length}
-use Rattle.points.specs.declared.Point.{Point}
-use Rattle.headings.specs.Headings.{bentOf, headingOf}
-use Rattle.pairs.specs.Pairs.{point, pointAt}
-use Rattle.bends.specs.declared.Bend.{Bend}
-use Rattle.bends.specs.declared.Bend.the-variants.{Leg, None}
+-- Straight and bent: what an answer says, and which differences are in line. Assumes nothing: these are definitions.
+use mathlib.Core.Bool.{Bool, true, false, _||_}
+use Prim.Native.Nat.{ℕ}
+use lib.Dec.{eqb}
+use Rattle.bends.specs.declared.Heading.{Heading}
+use Rattle.bends.specs.declared.Heading.the-variants.{Straight, Bent, Refused}
+use Rattle.bends.specs.declared.Way.{Way}
+use Rattle.bends.specs.declared.Way.the-variants.{Along, Still}
 
--- the first bent leg of those that go on from waypoint k, the point p
-unfoldable pub bentFrom : ℕ → Point → List ℤ → Bend
-bentFrom k p [] = None
-bentFrom k p (x ∷ []) = None
-bentFrom k p (x ∷ y ∷ l) = cond (bentOf (headingOf p (point x y))) (Leg k) (bentFrom (k + 1) (point x y) l)
+-- the direction, straight or bent
+abbrev pub wayOf : Heading → Way
+wayOf (Straight d n) = Along d
+wayOf (Bent d n) = Along d
+wayOf (Refused r) = Still
 
-unfoldable pub firstBentOf : List ℤ → Bend
-unfolding bentFrom
-firstBentOf [] = None
-firstBentOf (x ∷ []) = None
-firstBentOf (x ∷ y ∷ l) = bentFrom 1 (point x y) l
+-- the length, or the larger difference; 0 where refused
+abbrev pub stepsOf : Heading → ℕ
+stepsOf (Straight d n) = n
+stepsOf (Bent d n) = n
+stepsOf (Refused r) = 0
 
--- whether leg k is bent
-abbrev pub bentLeg : List ℤ → ℕ → Bool
-bentLeg l k = bentOf (headingOf (pointAt l (2 * (k - 1))) (pointAt l (2 * k)))
+-- equal points are in line
+abbrev pub bentOf : Heading → Bool
+bentOf (Straight d n) = false
+bentOf (Bent d n) = true
+bentOf (Refused r) = false
 
--- a leg of the list is bent, and none before it is; or none is
-abbrev pub Least : List ℤ → Bend → Type 0
-Least l (Leg k) = (0 < k) × (2 * k + 1 < length l) × (bentLeg l k ≡ true) × ((j : ℕ) → 0 < j → j < k → bentLeg l j ≡ false)
-Least l None = (j : ℕ) → 0 < j → 2 * j + 1 < length l → bentLeg l j ≡ false
-
--- LAW: the first bent leg is the least one
-abbrev pub FirstIsLeast : Type 0
-FirstIsLeast = (l : List ℤ) → Least l (firstBentOf l)
+-- points so far apart are in line: one difference is 0, or both are equal in size
+abbrev pub inLine : ℕ → ℕ → Bool
+inLine across down = eqb across 0 || (eqb down 0 || eqb across down)

@@ -17,8 +17,8 @@ use Rattle.pairs.specs.Pairs.{Even, point, pointAt, firstBad}
 use Rattle.pairs.specs.declared.Bad.{Bad}
 use Rattle.pairs.specs.declared.Bad.the-variants.{At, Nowhere}
 use Rattle.headings.specs.Headings.{spanOf}
-use Rattle.bends.specs.declared.Bend.{Bend}
-use Rattle.bends.specs.Bends.{firstBentOf}
+use Rattle.legs.specs.declared.Bend.{Bend}
+use Rattle.legs.specs.Legs.{firstBentOf}
 use Rattle.paths.specs.Walks.{nextTo, walkOf, pathFrom}
 use Rattle.paths.proofs.Laws.{walk-length, path-more, path-end, path-whole}
 use Rattle.checks.specs.declared.Checked.the-variants.{Judged, Refused}

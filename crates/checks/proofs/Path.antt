@@ -2,20 +2,20 @@
 use mathlib.Core.Path.{_≡_, refl, sym, ap, _∙_}
 use mathlib.Core.Bool.{Bool, false, cond}
 use mathlib.Core.List.{List, [], _∷_, _++_}
-use Prim.Native.Nat.{ℕ, zero, suc, _+_, _≤_, min}
+use Prim.Native.Nat.{ℕ, zero, suc, _+_}
 use native.Mathlib.Omega.{arith}
 use lib.IntN.{ℤ, _-ℤ_}
 use lib.ListN.{drop}
 use Rattle.points.specs.declared.Point.{Point}
 use Rattle.pairs.specs.Pairs.{point}
-use Rattle.headings.specs.Headings.{bentOf, headingOf, spanOf}
+use Rattle.bends.specs.Bends.{bentOf}
+use Rattle.headings.specs.Headings.{headingOf, spanOf}
 use Rattle.headings.proofs.Lines.{near-unbent}
-use Rattle.bends.specs.declared.Bend.the-variants.{Leg, None}
-use Rattle.bends.specs.Bends.{bentFrom, firstBentOf}
+use Rattle.legs.specs.declared.Bend.the-variants.{Leg, None}
+use Rattle.legs.specs.Legs.{bentFrom, firstBentOf}
 use Rattle.paths.specs.Walks.{nextTo, walkOf, pathFrom, pathOf}
 use Rattle.paths.proofs.Arrives.{after, arrives}
 use Rattle.paths.proofs.Again.{one-off, Taken, again, path-taken, walked}
-use Rattle.checks.specs.declared.Checked.{Checked}
 use Rattle.checks.specs.declared.Checked.the-variants.{Judged}
 use Rattle.checks.specs.Checks.{allFree, clearOf, checkIn, unbent, PathSaysSame}
 use Rattle.checks.proofs.Laws.{check-judged}

@@ -16,9 +16,9 @@ use Rattle.grid.specs.declared.Grid.{Grid}
 use Rattle.pairs.specs.Pairs.{point, firstBad}
 use Rattle.pairs.specs.declared.Bad.{Bad}
 use Rattle.pairs.specs.declared.Bad.the-variants.{At, Nowhere}
-use Rattle.bends.specs.declared.Bend.{Bend}
-use Rattle.bends.specs.declared.Bend.the-variants.{None}
-use Rattle.bends.specs.Bends.{firstBentOf}
+use Rattle.legs.specs.declared.Bend.{Bend}
+use Rattle.legs.specs.declared.Bend.the-variants.{None}
+use Rattle.legs.specs.Legs.{firstBentOf}
 use Rattle.paths.specs.Walks.{pathOf, pathAnswer, pathKept}
 use Rattle.paths.specs.declared.Written.the-variants.{Points}
 use Rattle.checks.specs.declared.Checked.{Checked}

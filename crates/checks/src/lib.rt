@@ -10,8 +10,8 @@ ghost use Rattle.pairs.specs.declared.Bad.the-variants.{Nowhere};
 ghost use Rattle.headings.specs.Headings.{spanOf};
 ghost use Rattle.paths.specs.Walks.{walkOf};
 ghost use Rattle.checks.specs.Checks.{freeAt, allFree, clearOf, checkIn, checkOf};
-use bends::Bend;
 use grid::Grid;
+use legs::Bend;
 use pairs::Bad;
 use points::Point;
 use points::Refusal;
@@ -86,7 +86,7 @@ pub fn check_list(blocked: &[u8], w: usize, h: usize, list: &[i32]) -> Checked
     if let Bad::At(p) = bad {
         return Checked::Refused(Refusal::BadPoint(p));
     }
-    let bend = bends::first_bent(list);
+    let bend = legs::first_bent(list);
     Checked::Judged(clear(blocked, w, h, list), bend)
 }
 

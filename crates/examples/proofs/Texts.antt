@@ -23,7 +23,7 @@ use Rattle.tables.specs.Tables.{newOf}
 use Rattle.grid.specs.Grids.{statedOf, newGrid, rebuildOutcome}
 use Rattle.pairs.specs.Pairs.{firstBad}
 use Rattle.paths.specs.Walks.{walkOf, pathFrom, pathOf, countedOf, pathAnswer}
-use Rattle.bends.specs.Bends.{bentFrom, firstBentOf}
+use Rattle.legs.specs.Legs.{bentFrom, firstBentOf}
 use Rattle.checks.specs.Checks.{freeAt, allFree, checkIn, checkOf}
 use Rattle.answers.specs.Answers.{pointsText, answerText, badText}
 use Rattle.floors.specs.Floors.{floorGrid, readOf, shownOf, putOf}

@@ -8,9 +8,10 @@ use lib.IntN.{ℤ, pos, negsuc, _-ℤ_, natAbs}
 use lib.Ieee.{Float, nan, inf, fin}
 use Rattle.points.specs.Plane.{inRange, legal}
 use Rattle.points.specs.Compass.{moved, dir, signOf, clockwise, counterclockwise, diagonalOf, splitOf}
-use Rattle.headings.specs.Headings.{wayOf, stepsOf, headingOf}
-use Rattle.headings.specs.declared.Heading.the-variants.{Straight, Bent, Refused}
-use Rattle.headings.specs.declared.Way.the-variants.{Along, Still}
+use Rattle.bends.specs.Bends.{wayOf, stepsOf}
+use Rattle.headings.specs.Headings.{headingOf}
+use Rattle.bends.specs.declared.Heading.the-variants.{Straight, Bent, Refused}
+use Rattle.bends.specs.declared.Way.the-variants.{Along, Still}
 use Rattle.points.specs.Refusals.{toldOf}
 use Rattle.points.specs.declared.Point.{Point}
 use Rattle.points.specs.declared.Refusal.the-variants as refusal

@@ -10,7 +10,7 @@ use Rattle.points.specs.declared.Point.{Point}
 use Rattle.points.specs.declared.Refusal.the-variants as refusal
 use Rattle.costs.specs.Scale.{one}
 use Rattle.offers.specs.Search.{refused}
-use Rattle.bends.specs.declared.Bend.the-variants.{Leg, None}
+use Rattle.legs.specs.declared.Bend.the-variants.{Leg, None}
 use Rattle.checks.specs.declared.Checked.the-variants as Checked
 use Rattle.paths.specs.declared.Written.the-variants as Written
 use Rattle.tables.specs.Tables.{Tables}

@@ -8,7 +8,7 @@ use lib.Ieee.{nan}
 use Rattle.points.specs.declared.Point.{Point}
 use Rattle.points.specs.declared.Refusal.{Refusal}
 use Rattle.points.specs.declared.Refusal.the-variants as refusal
-use Rattle.headings.specs.declared.Heading.the-variants as Heading
+use Rattle.bends.specs.declared.Heading.the-variants as Heading
 use Rattle.headings.specs.Headings.{directionOf}
 use Rattle.costs.specs.declared.Measure.the-variants as Measure
 use Rattle.costs.specs.declared.Settings.{Settings}

@@ -31,8 +31,8 @@ use Rattle.pairs.specs.Pairs.{pointAt, firstBad}
 use Rattle.pairs.specs.declared.Bad.the-variants as Bad
 use Rattle.paths.specs.Walks.{pathOf, pathAnswer, pathKept}
 use Rattle.paths.specs.declared.Written.the-variants as written
-use Rattle.bends.specs.declared.Bend.the-variants.{Leg, None}
-use Rattle.bends.specs.Bends.{firstBentOf}
+use Rattle.legs.specs.declared.Bend.the-variants.{Leg, None}
+use Rattle.legs.specs.Legs.{firstBentOf}
 use Rattle.checks.specs.declared.Checked.{Checked}
 use Rattle.checks.specs.declared.Checked.the-variants as checked
 use Rattle.checks.specs.Checks.{checkIn}

@@ -3,8 +3,9 @@ use mathlib.Core.Path.{_≡_, refl, sym, _∙_}
 use mathlib.Core.Bool.{Bool, true, false}
 use Prim.Native.Nat.{ℕ, zero, suc, _+_, _-_, _%_}
 use native.Mathlib.Omega.{arith}
-use Rattle.headings.specs.Headings.{wayOf, headingOf}
-use Rattle.headings.specs.declared.Way.the-variants.{Along, Still}
+use Rattle.bends.specs.Bends.{wayOf}
+use Rattle.headings.specs.Headings.{headingOf}
+use Rattle.bends.specs.declared.Way.the-variants.{Along, Still}
 use Rattle.points.specs.declared.Point.{Point}
 use Rattle.points.specs.declared.Direction.{Direction}
 use Rattle.points.specs.declared.Refusal.the-variants.{Depth, Same}

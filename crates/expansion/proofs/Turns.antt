@@ -8,10 +8,11 @@ use lib.ListN.{length}
 use Rattle.points.specs.declared.Point.{Point}
 use Rattle.points.specs.declared.Direction.{Direction}
 use Rattle.points.specs.declared.Refusal.{Refusal}
-use Rattle.headings.specs.declared.Heading.{Heading}
-use Rattle.headings.specs.declared.Way.{Way}
-use Rattle.headings.specs.declared.Way.the-variants.{Along}
-use Rattle.headings.specs.Headings.{wayOf, headingOf}
+use Rattle.bends.specs.declared.Heading.{Heading}
+use Rattle.bends.specs.declared.Way.{Way}
+use Rattle.bends.specs.declared.Way.the-variants.{Along}
+use Rattle.bends.specs.Bends.{wayOf}
+use Rattle.headings.specs.Headings.{headingOf}
 use Rattle.masks.specs.Masks.{hasBit, prunedIn}
 use Rattle.goals.specs.declared.Plan.{Plan}
 use Rattle.offers.specs.declared.Mark.{Mark}

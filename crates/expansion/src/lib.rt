@@ -1,6 +1,6 @@
 // Expanding a cell and following one direction, which call each other: the remaining depth falls. Successors are offered to the search.
+use bends::Way;
 use goals::Plan;
-use headings::Way;
 use offers::Fate;
 use offers::Mark;
 use offers::Step;

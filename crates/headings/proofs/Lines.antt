@@ -7,21 +7,21 @@ use native.Mathlib.Nat.{mod-lt}
 use native.Mathlib.Omega.{arith}
 use borrow.Author.Tests.{eq-eqb, ne-eqb, eqb-true}
 use lib.Dec.{T, eqb, lit<}
-use lib.IntN.{ℤ, pos, negsuc, natAbs, _+ℤ_, _-ℤ_, +ℤ-idr}
+use lib.IntN.{ℤ, pos, negsuc, natAbs, _+ℤ_, _-ℤ_}
 use Rattle.directions.specs.Offsets.{offX, offY}
 use Rattle.directions.proofs.Eight.{by-eight}
 use Rattle.points.specs.Plane.{legal}
 use Rattle.points.specs.Compass.{dir, dxOf, dyOf, moved, signOf}
 use Rattle.points.specs.declared.Point.{Point}
-use Rattle.points.specs.declared.Direction.{Direction}
 use Rattle.points.specs.declared.Sign.{Sign}
 use Rattle.points.specs.declared.Sign.the-variants.{Minus, Zero, Plus}
 use Rattle.points.specs.declared.Refusal.the-variants.{Same, BadPoint}
 use Rattle.points.proofs.Halves.{up, dn, same, abs-is, add-is, sub-law, apart}
 use Rattle.points.proofs.Signed.{parts, gap-le}
-use Rattle.headings.specs.declared.Heading.{Heading}
-use Rattle.headings.specs.declared.Heading.the-variants.{Straight, Bent, Refused}
-use Rattle.headings.specs.Headings.{stepsOf, bentOf, bySign, compassOf, inLine, spanOf, pickHeading, headingOf, directionOf}
+use Rattle.bends.specs.declared.Heading.{Heading}
+use Rattle.bends.specs.declared.Heading.the-variants.{Straight, Bent, Refused}
+use Rattle.bends.specs.Bends.{stepsOf, bentOf, inLine}
+use Rattle.headings.specs.Headings.{bySign, compassOf, spanOf, pickHeading, headingOf, directionOf}
 use Rattle.headings.specs.Lines.{ahead, StraightLeads, BentNever}
 
 -- ---- a coordinate, and steps of a sign

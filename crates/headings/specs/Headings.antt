@@ -1,5 +1,5 @@
 -- The direction from one point to another, straight or bent, and how many steps lead there. Assumes nothing: these are definitions.
-use mathlib.Core.Bool.{Bool, true, false, _||_}
+use mathlib.Core.Bool.{Bool, true, false}
 use Prim.Native.Nat.{ℕ, max}
 use lib.Dec.{eqb}
 use lib.IntN.{natAbs, _-ℤ_}
@@ -9,28 +9,9 @@ use Rattle.points.specs.declared.Point.{Point}
 use Rattle.points.specs.declared.Sign.{Sign}
 use Rattle.points.specs.declared.Sign.the-variants.{Minus, Zero, Plus}
 use Rattle.points.specs.declared.Refusal.the-variants.{Same, BadPoint}
-use Rattle.headings.specs.declared.Heading.{Heading}
-use Rattle.headings.specs.declared.Heading.the-variants.{Straight, Bent, Refused}
-use Rattle.headings.specs.declared.Way.{Way}
-use Rattle.headings.specs.declared.Way.the-variants.{Along, Still}
-
--- the direction, straight or bent
-abbrev pub wayOf : Heading → Way
-wayOf (Straight d n) = Along d
-wayOf (Bent d n) = Along d
-wayOf (Refused r) = Still
-
--- the length, or the larger difference; 0 where refused
-abbrev pub stepsOf : Heading → ℕ
-stepsOf (Straight d n) = n
-stepsOf (Bent d n) = n
-stepsOf (Refused r) = 0
-
--- equal points are in line
-abbrev pub bentOf : Heading → Bool
-bentOf (Straight d n) = false
-bentOf (Bent d n) = true
-bentOf (Refused r) = false
+use Rattle.bends.specs.declared.Heading.{Heading}
+use Rattle.bends.specs.declared.Heading.the-variants.{Straight, Bent, Refused}
+use Rattle.bends.specs.Bends.{inLine}
 
 -- one of three, by a sign
 abbrev pub bySign : Sign → ℕ → ℕ → ℕ → ℕ
@@ -43,10 +24,6 @@ abbrev pub compassOf : Sign → Sign → ℕ
 compassOf Minus s = bySign s 7 6 5
 compassOf Zero s = bySign s 0 8 4
 compassOf Plus s = bySign s 1 2 3
-
--- points so far apart are in line: one difference is 0, or both are equal in size
-abbrev pub inLine : ℕ → ℕ → Bool
-inLine across down = eqb across 0 || (eqb down 0 || eqb across down)
 
 -- how many steps lead from a to b: the larger of the two differences
 abbrev pub spanOf : Point → Point → ℕ

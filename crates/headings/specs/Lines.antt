@@ -5,8 +5,9 @@ use Prim.Native.Nat.{ℕ, zero, suc, _%_, _<_}
 use Rattle.points.specs.Compass.{dir, moved}
 use Rattle.points.specs.declared.Point.{Point}
 use Rattle.points.specs.declared.Direction.{Direction}
-use Rattle.headings.specs.declared.Heading.the-variants.{Straight}
-use Rattle.headings.specs.Headings.{bentOf, headingOf}
+use Rattle.bends.specs.declared.Heading.the-variants.{Straight}
+use Rattle.bends.specs.Bends.{bentOf}
+use Rattle.headings.specs.Headings.{headingOf}
 
 -- the point after n steps of the direction d
 unfoldable pub ahead : ℕ → ℕ → Point → Point

@@ -1,62 +1,13 @@
 // The direction from one point to another, by the sign of each coordinate difference, and how many steps lead there.
+use bends::Heading;
 use points::Direction;
 use points::Point;
 use points::Refusal;
 use points::Sign;
 ghost use mathlib.Core.Path.{_≡_};
-ghost use Prim.Native.Nat.{max};
 ghost use lib.Dec.{T};
 ghost use Rattle.points.specs.Plane.{legal};
-ghost use Rattle.headings.specs.Headings.{wayOf, stepsOf, bentOf, bySign, compassOf, inLine, headingOf, directionOf};
-
-// The direction from one point to another, or a refusal: straight with its length, where steps of that direction lead all the way;
-// else bent, with the larger of the two differences.
-pub enum Heading {
-    Straight(Direction, usize),
-    Bent(Direction, usize),
-    Refused(Refusal),
-}
-
-// The direction of a first step; none is made from a point to itself.
-pub enum Way {
-    Along(Direction),
-    Still,
-}
-
-impl Heading {
-    // The direction, straight or bent.
-    pub fn way(self) -> Way
-        ensures { λ r. ⌜ r ≡ wayOf self ⌝ }
-    {
-        match self {
-            Heading::Straight(d, _) => Way::Along(d),
-            Heading::Bent(d, _) => Way::Along(d),
-            Heading::Refused(_) => Way::Still,
-        }
-    }
-
-    // How many steps lead there, straight or bent; 0 where refused.
-    pub fn steps(self) -> usize
-        ensures { λ r. ⌜ r ≡ stepsOf self ⌝ }
-    {
-        match self {
-            Heading::Straight(_, n) => n,
-            Heading::Bent(_, n) => n,
-            Heading::Refused(_) => 0,
-        }
-    }
-
-    // Whether the two points are not in line; a point is in line with itself.
-    pub fn bent(self) -> bool
-        ensures { λ r. ⌜ r ≡ bentOf self ⌝ }
-    {
-        match self {
-            Heading::Straight(_, _) => false,
-            Heading::Bent(_, _) => true,
-            Heading::Refused(_) => false,
-        }
-    }
-}
+ghost use Rattle.headings.specs.Headings.{bySign, compassOf, headingOf, directionOf};
 
 // One of three numbers, by a sign.
 fn by_sign(s: Sign, minus: u8, zero: u8, plus: u8) -> u8
@@ -80,28 +31,6 @@ fn compass(sx: Sign, sy: Sign) -> u8
     }
 }
 
-// Whether points that are so far apart are in line: one difference is 0, or both are equal in size.
-fn in_line(across: u32, down: u32) -> bool
-    ensures { λ r. ⌜ r ≡ inLine across down ⌝ }
-{
-    if across == 0 {
-        return true;
-    }
-    if down == 0 {
-        return true;
-    }
-    across == down
-}
-
-fn larger(across: u32, down: u32) -> u32
-    ensures { λ r. ⌜ r ≡ max across down ⌝ }
-{
-    if across < down {
-        return down;
-    }
-    across
-}
-
 // The direction from a to b, for points that are known to be in range. Refuses SAME.
 pub fn direction_between(a: Point, b: Point) -> Heading
     requires { ⌜ T (legal a) × T (legal b) ⌝ }
@@ -115,8 +44,8 @@ pub fn direction_between(a: Point, b: Point) -> Heading
     }
     let across = points::gap(a.x, b.x);
     let down = points::gap(a.y, b.y);
-    let steps = larger(across, down) as usize;
-    if in_line(across, down) {
+    let steps = bends::larger(across, down) as usize;
+    if bends::in_line(across, down) {
         return Heading::Straight(Direction { number: n }, steps);
     }
     Heading::Bent(Direction { number: n }, steps)

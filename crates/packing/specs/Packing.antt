@@ -10,9 +10,9 @@ use Rattle.points.specs.Refusals.{toldOf}
 use Rattle.points.specs.declared.Point.{Point}
 use Rattle.points.specs.declared.Refusal.{Refusal}
 use Rattle.points.specs.declared.Told.{Told}
-use Rattle.headings.specs.declared.Heading.{Heading}
-use Rattle.headings.specs.declared.Heading.the-variants.{Straight, Bent}
-use Rattle.headings.specs.declared.Heading.the-variants as heading
+use Rattle.bends.specs.declared.Heading.{Heading}
+use Rattle.bends.specs.declared.Heading.the-variants.{Straight, Bent}
+use Rattle.bends.specs.declared.Heading.the-variants as heading
 use Rattle.costs.specs.declared.Settings.{Settings}
 use Rattle.costs.specs.declared.Measure.{Measure}
 use Rattle.costs.specs.declared.Measure.the-variants.{Cost}

@@ -1,6 +1,6 @@
 -- A leg, step by step: a straight one repeats the step of its direction, and its walk is that of the sign steps. Assumes nothing.
 use mathlib.Core.Path.{_≡_, refl, sym, ap, _∙_, subst}
-use mathlib.Core.List.{List, [], _∷_}
+use mathlib.Core.List.{List, _∷_}
 use Prim.Native.Nat.{ℕ, zero, suc, _-_, _*_, _%_, _<_}
 use native.Mathlib.Omega.{arith}
 use lib.Dec.{T}
@@ -12,9 +12,10 @@ use Rattle.points.specs.declared.Point.{Point}
 use Rattle.points.specs.declared.Direction.{Direction}
 use Rattle.points.specs.declared.Sign.{Sign}
 use Rattle.points.specs.declared.Sign.the-variants.{Minus, Zero, Plus}
-use Rattle.headings.specs.declared.Heading.{Heading}
-use Rattle.headings.specs.declared.Heading.the-variants.{Straight, Bent, Refused}
-use Rattle.headings.specs.Headings.{stepsOf, headingOf, spanOf}
+use Rattle.bends.specs.declared.Heading.{Heading}
+use Rattle.bends.specs.declared.Heading.the-variants.{Straight, Bent, Refused}
+use Rattle.bends.specs.Bends.{stepsOf}
+use Rattle.headings.specs.Headings.{headingOf, spanOf}
 use Rattle.headings.specs.Lines.{ahead}
 use Rattle.headings.proofs.Lines.{offset, ahead-signs, straight-leads, steps-span}
 use Rattle.paths.specs.Walks.{stepBy, nextTo, onwardTo, walkOf}

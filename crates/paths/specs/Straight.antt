@@ -6,7 +6,7 @@ use lib.IntN.{ℤ}
 use Rattle.points.specs.Compass.{dir, moved}
 use Rattle.points.specs.declared.Point.{Point}
 use Rattle.points.specs.declared.Direction.{Direction}
-use Rattle.headings.specs.declared.Heading.the-variants.{Straight}
+use Rattle.bends.specs.declared.Heading.the-variants.{Straight}
 use Rattle.headings.specs.Headings.{headingOf, spanOf}
 use Rattle.paths.specs.Walks.{walkOf}
 

@@ -11,8 +11,8 @@ use Rattle.points.specs.declared.Point.{Point}
 use Rattle.points.specs.declared.Sign.{Sign}
 use Rattle.points.specs.declared.Sign.the-variants.{Minus, Zero, Plus}
 use Rattle.points.specs.declared.Refusal.the-variants.{List as ListBroken, Room, BadPoint}
-use Rattle.headings.specs.declared.Heading.{Heading}
-use Rattle.headings.specs.declared.Heading.the-variants.{Straight, Bent, Refused as NoHeading}
+use Rattle.bends.specs.declared.Heading.{Heading}
+use Rattle.bends.specs.declared.Heading.the-variants.{Straight, Bent, Refused as NoHeading}
 use Rattle.headings.specs.Headings.{spanOf}
 use Rattle.pairs.specs.Pairs.{point, firstBad}
 use Rattle.pairs.specs.declared.Bad.{Bad}

@@ -9,7 +9,7 @@ ghost use Rattle.headings.specs.Headings.{spanOf};
 ghost use Rattle.pairs.specs.Pairs.{Even, firstBad};
 ghost use Rattle.pairs.specs.declared.Bad.the-variants.{Nowhere};
 ghost use Rattle.paths.specs.Walks.{closerTo, nextTo, onwardTo, walkOf, pathOf, countedOf, pathAnswer, pathKept};
-use headings::Heading;
+use bends::Heading;
 use pairs::Bad;
 use points::Point;
 use points::Refusal;

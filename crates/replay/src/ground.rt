@@ -2,8 +2,8 @@
 ghost use Prim.Native.Nat.{_<_, _≤_};
 use super::answers;
 use super::answers::Tally;
+use bends::Heading;
 use costs::Measure;
-use headings::Heading;
 use points::Direction;
 use points::Parts;
 use points::Point;

@@ -1,9 +1,9 @@
 // Blocks of route checks. Their form stands at the head of oracle/tools/src/bin/checks.rs.
 use super::answers;
 use super::grids;
-use bends::Bend;
 use checks::Checked;
 use grid::Grid;
+use legs::Bend;
 
 // The number of a leg, 0 for none.
 fn leg(b: Bend) -> u64 {
@@ -22,14 +22,10 @@ fn leg_wrong(b: Bend, s: &[u8]) -> u64 {
 fn differs(c: Checked, s: &[u8]) -> u64 {
     match c {
         Checked::Judged(clear, b) => {
-            answers::byte_wrong(0, s, 0)
-                | answers::byte_wrong(clear as u8, s, 5)
-                | leg_wrong(b, s)
+            answers::byte_wrong(0, s, 0) | answers::byte_wrong(clear as u8, s, 5) | leg_wrong(b, s)
         }
         Checked::Refused(r) => {
-            answers::refused_wrong(r, s)
-                | answers::byte_wrong(0, s, 5)
-                | leg_wrong(Bend::None, s)
+            answers::refused_wrong(r, s) | answers::byte_wrong(0, s, 5) | leg_wrong(Bend::None, s)
         }
     }
 }

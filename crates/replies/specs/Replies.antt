@@ -7,8 +7,8 @@ use Rattle.points.specs.declared.Told.{Told}
 use Rattle.finder.specs.declared.Answer.{Answer}
 use Rattle.finder.specs.declared.Outcome.{Outcome}
 use Rattle.finder.specs.declared.Outcome.the-variants.{Found, Refused}
-use Rattle.bends.specs.declared.Bend.{Bend}
-use Rattle.bends.specs.declared.Bend.the-variants.{Leg, None}
+use Rattle.legs.specs.declared.Bend.{Bend}
+use Rattle.legs.specs.declared.Bend.the-variants.{Leg, None}
 use Rattle.checks.specs.declared.Checked.{Checked}
 use Rattle.checks.specs.declared.Checked.the-variants.{Judged, Refused as RefusedCheck}
 use Rattle.paths.specs.declared.Written.{Written}

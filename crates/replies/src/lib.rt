@@ -2,10 +2,10 @@
 ghost use mathlib.Core.Path.{_≡_};
 ghost use Rattle.points.specs.Refusals.{toldOf};
 ghost use Rattle.replies.specs.Replies.{routeOf, valueReply, toldReply, writtenReply, legOf, checkReply};
-use bends::Bend;
 use checks::Checked;
 use finder::Answer;
 use finder::Outcome;
+use legs::Bend;
 use paths::Written;
 use points::Refusal;
 

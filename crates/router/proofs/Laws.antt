@@ -49,8 +49,8 @@ use Rattle.maps.specs.declared.Reading.the-variants.{Map, Bad}
 use Rattle.maps.proofs.Laws.{HBounded, head-fair, side-most}
 use Rattle.checks.specs.declared.Checked.{Checked}
 use Rattle.checks.specs.declared.Checked.the-variants.{Judged, Refused as RefusedCheck}
-use Rattle.bends.specs.declared.Bend.{Bend}
-use Rattle.bends.specs.Bends.{firstBentOf}
+use Rattle.legs.specs.declared.Bend.{Bend}
+use Rattle.legs.specs.Legs.{firstBentOf}
 use Rattle.checks.specs.Checks.{clearOf, judged, checkIn, checkOf}
 use Rattle.floors.specs.Floors.{readAs, readOf}
 use lib.Seq.{sets}

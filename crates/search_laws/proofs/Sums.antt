@@ -4,9 +4,10 @@ use mathlib.Core.Bool.{Bool, true, false, cond}
 use Prim.Native.Nat.{ℕ, zero, suc, _+_, _-_, _*_, _%_, _<_, _≤_}
 use native.Mathlib.Omega.{arith}
 use lib.ListN.{length, getD}
-use Rattle.headings.specs.Headings.{wayOf, headingOf}
-use Rattle.headings.specs.declared.Way.{Way}
-use Rattle.headings.specs.declared.Way.the-variants.{Along, Still}
+use Rattle.bends.specs.Bends.{wayOf}
+use Rattle.headings.specs.Headings.{headingOf}
+use Rattle.bends.specs.declared.Way.{Way}
+use Rattle.bends.specs.declared.Way.the-variants.{Along, Still}
 use Rattle.points.specs.declared.Point.{Point}
 use Rattle.points.specs.declared.Refusal.the-variants.{Depth, Same}
 use Rattle.masks.specs.Masks.{hasBit}

@@ -1,11 +1,11 @@
 // Reads a map on standard input, or those in the files that are named, and draws each floor with its route:
 // S start, G goal, X both, as small letters where the cell is blocked; o waypoint, * walked, # blocked, . free.
 // What came of the search stands under it, in words.
-use bends::Bend;
 use checks::Checked;
 use finder::Answer;
 use finder::Outcome;
 use grid::Grid;
+use legs::Bend;
 use libc::STDIN_FILENO;
 use libc::STDOUT_FILENO;
 use points::Point;
@@ -205,10 +205,7 @@ fn say_bend(out: Out, checked: Checked) -> Out {
 fn say_answer(out: Out, g: Grid, list: &[i32], answer: Answer) -> Out {
     let outcome = answer.outcome;
     let told = match outcome {
-        Outcome::Found(n, _) => say_bend(
-            say_found(out, n),
-            checks::check_route(g, first(list, n)),
-        ),
+        Outcome::Found(n, _) => say_bend(say_found(out, n), checks::check_route(g, first(list, n))),
         Outcome::Refused(r) => say_refusal(out, r),
     };
     say(

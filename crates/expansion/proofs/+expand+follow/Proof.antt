@@ -7,7 +7,8 @@ use Prim.Native.Nat.{ℕ, _+_, _-_, _*_, _%_, _<_}
 use native.Mathlib.Omega.{arith}
 use borrow.Fn.Kinds.{In}
 use borrow.Fn.PlainCycle.{Measures, is, falls, and}
-use Rattle.headings.specs.Headings.{wayOf, headingOf}
+use Rattle.bends.specs.Bends.{wayOf}
+use Rattle.headings.specs.Headings.{headingOf}
 use Rattle.masks.specs.Masks.{hasBit}
 use Rattle.goals.specs.Goals.{mostSide}
 use Rattle.offers.specs.Search.{outOf, view}
@@ -35,7 +36,7 @@ use Rattle.stops.proofs.price_of.Reads as price-of-reads
 use Rattle.stops.proofs.spot.Reads as spot-reads
 use Rattle.masks.proofs.pruned_mask.Reads as pruned-mask-reads
 use Rattle.headings.proofs.direction_between.Reads as direction-between-reads
-use Rattle.headings.proofs.Heading.way.Reads as way-reads
+use Rattle.bends.proofs.Heading.way.Reads as way-reads
 use Rattle.expansion.proofs.+expand+follow.{statement}
 use Rattle.expansion.proofs.+expand+follow.Tie.{close}
 

@@ -9,8 +9,9 @@ use lib.IntN.{natAbs, _-ℤ_}
 use Rattle.points.specs.Plane.{inRange}
 use Rattle.points.specs.Compass.{dir, signOf}
 use Rattle.points.specs.declared.Refusal.the-variants.{Same}
-use Rattle.headings.specs.declared.Heading.the-variants.{Straight, Bent, Refused}
-use Rattle.headings.specs.Headings.{compassOf, inLine, spanOf, pickHeading, headingAt, headingOf}
+use Rattle.bends.specs.declared.Heading.the-variants.{Straight, Bent, Refused}
+use Rattle.bends.specs.Bends.{inLine}
+use Rattle.headings.specs.Headings.{compassOf, spanOf, pickHeading, headingAt, headingOf}
 use Rattle.points.proofs.Signed.{parts, reads, diff-read}
 use Rattle.headings.proofs.direction_between.Statement.{statement}
 use Rattle.headings.proofs.direction_between.Tie as tie

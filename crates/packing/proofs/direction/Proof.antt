@@ -3,8 +3,9 @@ use mathlib.Core.Path.{_≡_, sym, ap, _∙_, subst}
 use Prim.Native.Nat.{_≤_}
 use native.Mathlib.Omega.{arith}
 use Rattle.points.specs.declared.Told.{Told}
-use Rattle.headings.specs.declared.Heading.{Heading}
-use Rattle.headings.specs.Headings.{stepsOf, directionOf}
+use Rattle.bends.specs.declared.Heading.{Heading}
+use Rattle.bends.specs.Bends.{stepsOf}
+use Rattle.headings.specs.Headings.{directionOf}
 use Rattle.headings.proofs.Lines.{direction-short}
 use Rattle.packing.specs.Packing.{refusedWith, headingPacked}
 use borrow.Author.Needs.{needs}

@@ -1,6 +1,6 @@
 -- `paths::onward` meets its contract, case by case. Assumes nothing.
 use mathlib.Core.Path.{sym, ap, _∙_}
-use Rattle.headings.specs.declared.Heading.{Heading}
+use Rattle.bends.specs.declared.Heading.{Heading}
 use Rattle.paths.specs.Walks.{onwardTo}
 use borrow.Author.Needs.{needs}
 use Rattle.paths.proofs.onward.Statement.{statement}

@@ -2,8 +2,8 @@
 use mathlib.Core.Path.{_≡_, sym, _∙_, subst}
 use Prim.Native.Nat.{_≤_}
 use native.Mathlib.Omega.{arith}
-use Rattle.headings.specs.declared.Heading.{Heading}
-use Rattle.headings.specs.Headings.{stepsOf}
+use Rattle.bends.specs.declared.Heading.{Heading}
+use Rattle.bends.specs.Bends.{stepsOf}
 use Rattle.headings.proofs.Lines.{direction-short}
 use borrow.Author.Needs.{needs}
 use Rattle.replay.proofs.ground.heading.Statement.{statement}

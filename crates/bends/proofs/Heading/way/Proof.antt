@@ -1,9 +1,9 @@
--- `headings::Heading::way` meets its contract, case by case. Assumes nothing.
+-- `bends::Heading::way` meets its contract, case by case. Assumes nothing.
 use mathlib.Core.Path.{sym, ap}
-use Rattle.headings.specs.Headings.{wayOf}
+use Rattle.bends.specs.Bends.{wayOf}
 use borrow.Author.Needs.{needs}
-use Rattle.headings.proofs.Heading.way.Statement.{statement}
-use Rattle.headings.proofs.Heading.way.Tie as tie
+use Rattle.bends.proofs.Heading.way.Statement.{statement}
+use Rattle.bends.proofs.Heading.way.Tie as tie
 
 enum-known-self : tie.Need-enum-known-self
 enum-known-self c = search needs

@@ -1,17 +1,18 @@
 -- The first bent leg, one leg at a time. Assumes nothing.
-use mathlib.Core.Path.{_≡_, refl, sym, ap, _∙_}
+use mathlib.Core.Path.{_≡_, sym, ap, _∙_}
 use mathlib.Core.Bool.{Bool, cond}
-use mathlib.Core.List.{List, []}
+use mathlib.Core.List.{List}
 use Prim.Native.Nat.{ℕ, _+_, _≤_, _<_}
 use lib.IntN.{ℤ}
 use lib.ListN.{length, drop, drop-of-length-le}
 use Rattle.points.specs.declared.Point.{Point}
-use Rattle.headings.specs.declared.Heading.{Heading}
-use Rattle.headings.specs.Headings.{bentOf, headingOf}
+use Rattle.bends.specs.declared.Heading.{Heading}
+use Rattle.bends.specs.Bends.{bentOf}
+use Rattle.headings.specs.Headings.{headingOf}
 use Rattle.pairs.specs.Pairs.{pointAt}
 use Rattle.pairs.proofs.Laws.{two-more}
-use Rattle.bends.specs.Bends.{bentFrom, firstBentOf}
-use Rattle.bends.specs.declared.Bend.the-variants.{Leg, None}
+use Rattle.legs.specs.Legs.{bentFrom, firstBentOf}
+use Rattle.legs.specs.declared.Bend.the-variants.{Leg, None}
 
 module _ (l : List ℤ) where
   pub bent-begin : (p : Point) → p ≡ pointAt l 0 → 1 < length l → bentFrom 1 p (drop 2 l) ≡ firstBentOf l

@@ -1,7 +1,7 @@
--- `headings::in_line` meets its contract, test by test. Assumes nothing.
+-- `bends::in_line` meets its contract, test by test. Assumes nothing.
 use borrow.Author.Tests.{eq-eqb, ne-eqb}
-use Rattle.headings.proofs.in_line.Statement.{statement}
-use Rattle.headings.proofs.in_line.Tie as tie
+use Rattle.bends.proofs.in_line.Statement.{statement}
+use Rattle.bends.proofs.in_line.Tie as tie
 
 returns : tie.Need-returns
 returns c = rw (eq-eqb _ 0 (c .if1 .taken))

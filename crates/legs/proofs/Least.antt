@@ -7,11 +7,12 @@ use native.Mathlib.Omega.{arith}
 use lib.IntN.{ℤ, pos}
 use lib.ListN.{length, getD}
 use Rattle.points.specs.declared.Point.{Point}
-use Rattle.headings.specs.Headings.{bentOf, headingOf}
+use Rattle.bends.specs.Bends.{bentOf}
+use Rattle.headings.specs.Headings.{headingOf}
 use Rattle.pairs.specs.Pairs.{point}
-use Rattle.bends.specs.Bends.{bentFrom, firstBentOf, bentLeg, Least, FirstIsLeast}
-use Rattle.bends.specs.declared.Bend.{Bend}
-use Rattle.bends.specs.declared.Bend.the-variants.{Leg, None}
+use Rattle.legs.specs.Legs.{bentFrom, firstBentOf, bentLeg, Least, FirstIsLeast}
+use Rattle.legs.specs.declared.Bend.{Bend}
+use Rattle.legs.specs.declared.Bend.the-variants.{Leg, None}
 
 -- the least of the legs of w, whose first has the number k
 abbrev LeastFrom : ℕ → List ℤ → Bend → Type 0

@@ -1,7 +1,6 @@
--- `bends::first_bent` meets its contract: the first bent leg from here on is the whole list's. The measure is the numbers that are left. Assumes nothing.
-use Rattle.bends.proofs.Laws.{bent-begin, bent-end, bent-more}
-use Rattle.bends.specs.Bends.{bentFrom, firstBentOf}
-use Rattle.bends.specs.declared.Bend.{Bend}
+-- `legs::first_bent` meets its contract: the first bent leg from here on is the whole list's. The measure is the numbers that are left. Assumes nothing.
+use Rattle.legs.proofs.Laws.{bent-begin, bent-end, bent-more}
+use Rattle.legs.specs.Legs.{bentFrom, firstBentOf}
 use Rattle.pairs.specs.Pairs.{firstBad}
 use Rattle.pairs.specs.declared.Bad.the-variants.{Nowhere}
 use Rattle.pairs.proofs.Laws.{legal-here, none-bad}
@@ -14,8 +13,8 @@ use native.Mathlib.Omega.{arith}
 use Prim.Native.Nat.{ℕ, _+_, _-_, _/_, _%_, _≤_}
 use mathlib.Core.Path.{_≡_, refl, sym, ap, _∙_}
 use mathlib.Core.Bool.{true, false}
-use Rattle.bends.proofs.first_bent.Statement.{statement}
-use Rattle.bends.proofs.first_bent.Tie as tie
+use Rattle.legs.proofs.first_bent.Statement.{statement}
+use Rattle.legs.proofs.first_bent.Tie as tie
 
 abbrev Inv-loop : tie.InvT-loop
 Inv-loop list p₀ i₀ p i =
