@@ -32,7 +32,7 @@ use Rattle.boundary.specs.Lent.{linksOk, groundOk}
 use Rattle.boundary.specs.Texts.{printedOf}
 use Rattle.router.specs.Route.{exactOf, checkedText, routeText}
 use Rattle.examples.proofs.Searches.{computing}
-use Rattle.examples.specs.Texts.{at, headOn, clearRow, wall, unbent, three, Lines, Maps, Walks, Prints, Numbers, Texts}
+use Rattle.examples.specs.Texts.{at, headOn, clearRow, wall, noneBent, three, Lines, Maps, Walks, Prints, Numbers, Texts}
 
 lines : Lines
 unfolding moreOf numberOf coordOf numberLine pointLine digitsIn
@@ -92,7 +92,7 @@ walks = record {
 }
 
 -- document 01's two maps, from text to text
-routed : (routeText (headOn 49 clearRow) ≡ checkedText (unbent true) 3 three) × (routeText (headOn 49 wall) ≡ answerText 4 0 [] false)
+routed : (routeText (headOn 49 clearRow) ≡ checkedText (noneBent true) 3 three) × (routeText (headOn 49 wall) ≡ answerText 4 0 [] false)
 unfolding computing moreOf numberOf coordOf numberLine pointLine cellsThen rowOk rowsOf marks cellsOf sizeLine flagLine headOf mapOf cellsInto digitsIn floorGrid readOf routeText exactOf pointsText answerText statedOf rebuildOutcome firstBad walkOf pathFrom pathOf freeAt allFree bentFrom firstBentOf checkIn checkOf
 routed = (refl, refl)
 

@@ -141,8 +141,8 @@ abbrev pub onBench : List ℤ → Checked
 onBench l = checkIn 3 2 (0 ∷ 1 ∷ 0 ∷ 0 ∷ 0 ∷ 0 ∷ []) l
 
 -- clear or not, with no bent leg
-abbrev pub unbent : Bool → Checked
-unbent clear = checked.Judged clear None
+abbrev pub noneBent : Bool → Checked
+noneBent clear = checked.Judged clear None
 
 -- paths and route checks
 pub record Walks : Type 0 where
@@ -162,15 +162,15 @@ pub record Walks : Type 0 where
   pub refused : (pathAnswer [] 0 ≡ written.Refused refusal.List) × (pathAnswer (pos 1 ∷ []) 6 ≡ written.Refused refusal.List)
       × (pathAnswer (pos 0 ∷ pos 1024 ∷ []) 0 ≡ written.Refused (refusal.BadPoint (at 0 1024)))
   -- a blocked waypoint clear, or the first one looked at: to (1,0) it is not clear, from (1,0) it is
-  pub clear : (onWall (pos 0 ∷ pos 0 ∷ pos 1 ∷ pos 0 ∷ []) ≡ unbent false) × (onWall (pos 1 ∷ pos 0 ∷ pos 2 ∷ pos 0 ∷ []) ≡ unbent true)
+  pub clear : (onWall (pos 0 ∷ pos 0 ∷ pos 1 ∷ pos 0 ∷ []) ≡ noneBent false) × (onWall (pos 1 ∷ pos 0 ∷ pos 2 ∷ pos 0 ∷ []) ≡ noneBent true)
   -- the waypoints alone looked at: from (0,0) to (2,0) the way leads over (1,0)
-  pub between : onWall (pos 0 ∷ pos 0 ∷ pos 2 ∷ pos 0 ∷ []) ≡ unbent false
+  pub between : onWall (pos 0 ∷ pos 0 ∷ pos 2 ∷ pos 0 ∷ []) ≡ noneBent false
   -- a repeated first point looked at, or not where the walk comes back to it: (1,0), (1,0) is clear, and (1,0), (2,0), (1,0) is not
-  pub first : (onWall (pos 1 ∷ pos 0 ∷ pos 1 ∷ pos 0 ∷ []) ≡ unbent true) × (onWall (pos 1 ∷ pos 0 ∷ pos 2 ∷ pos 0 ∷ pos 1 ∷ pos 0 ∷ []) ≡ unbent false)
+  pub first : (onWall (pos 1 ∷ pos 0 ∷ pos 1 ∷ pos 0 ∷ []) ≡ noneBent true) × (onWall (pos 1 ∷ pos 0 ∷ pos 2 ∷ pos 0 ∷ pos 1 ∷ pos 0 ∷ []) ≡ noneBent false)
   -- a waypoint outside clear
-  pub outside : onWall (pos 0 ∷ pos 0 ∷ pos 3 ∷ pos 0 ∷ []) ≡ unbent false
+  pub outside : onWall (pos 0 ∷ pos 0 ∷ pos 3 ∷ pos 0 ∷ []) ≡ noneBent false
   -- a first point outside looked at, or what is walked outside after it not: from (-1,0) to (0,0) it is clear, from (-2,0) it is not
-  pub within : (onWall (negsuc 0 ∷ pos 0 ∷ pos 0 ∷ pos 0 ∷ []) ≡ unbent true) × (onWall (negsuc 1 ∷ pos 0 ∷ pos 0 ∷ pos 0 ∷ []) ≡ unbent false)
+  pub within : (onWall (negsuc 0 ∷ pos 0 ∷ pos 0 ∷ pos 0 ∷ []) ≡ noneBent true) × (onWall (negsuc 1 ∷ pos 0 ∷ pos 0 ∷ pos 0 ∷ []) ≡ noneBent false)
   -- another walk of a bent leg: that from (0,0) to (2,1) goes over (1,1), and that from (2,1) to (0,0) over (1,0)
   pub bent : (onBench (pos 0 ∷ pos 0 ∷ pos 2 ∷ pos 1 ∷ []) ≡ checked.Judged true (Leg 1)) × (onBench (pos 2 ∷ pos 1 ∷ pos 0 ∷ pos 0 ∷ []) ≡ checked.Judged false (Leg 1))
   -- legs counted from 0, equal points no leg or a bent one, the last bent leg for the first, or one named where there is none
@@ -193,9 +193,9 @@ pub record Prints : Type 0 where
   -- result and pops mixed, or a route where there is none
   pub refused : answerText 4 0 [] false ≡ 114 ∷ 101 ∷ 115 ∷ 117 ∷ 108 ∷ 116 ∷ 61 ∷ 52 ∷ 10 ∷ 112 ∷ 111 ∷ 112 ∷ 115 ∷ 61 ∷ 48 ∷ 10 ∷ 119 ∷ 97 ∷ 121 ∷ 112 ∷ 111 ∷ 105 ∷ 110 ∷ 116 ∷ 115 ∷ 61 ∷ 48 ∷ 10 ∷ 99 ∷ 108 ∷ 101 ∷ 97 ∷ 114 ∷ 61 ∷ 48 ∷ 10 ∷ []
   -- document 01's two maps from text to text: `row=...` is found with three pops and clear, `row=.#.` refused with 4
-  pub routed : (routeText (headOn 49 clearRow) ≡ checkedText (unbent true) 3 three) × (routeText (headOn 49 wall) ≡ answerText 4 0 [] false)
+  pub routed : (routeText (headOn 49 clearRow) ≡ checkedText (noneBent true) 3 three) × (routeText (headOn 49 wall) ≡ answerText 4 0 [] false)
   -- clear turned round, or a line for the bent leg: document 01's seven lines, and the fourth where the check says no and names leg 2
-  pub clear : (checkedText (unbent true) 3 three ≡ (114 ∷ 101 ∷ 115 ∷ 117 ∷ 108 ∷ 116 ∷ 61 ∷ 48 ∷ 10 ∷ 112 ∷ 111 ∷ 112 ∷ 115 ∷ 61 ∷ 51 ∷ 10 ∷ 119 ∷ 97 ∷ 121 ∷ 112 ∷ 111 ∷ 105 ∷ 110 ∷ 116 ∷ 115 ∷ 61 ∷ 51 ∷ 10 ∷ []) ++ ((99 ∷ 108 ∷ 101 ∷ 97 ∷ 114 ∷ 61 ∷ 49 ∷ 10 ∷ []) ++ (112 ∷ 111 ∷ 105 ∷ 110 ∷ 116 ∷ 61 ∷ 48 ∷ 44 ∷ 48 ∷ 10 ∷ 112 ∷ 111 ∷ 105 ∷ 110 ∷ 116 ∷ 61 ∷ 49 ∷ 44 ∷ 48 ∷ 10 ∷ 112 ∷ 111 ∷ 105 ∷ 110 ∷ 116 ∷ 61 ∷ 50 ∷ 44 ∷ 48 ∷ 10 ∷ [])))
+  pub clear : (checkedText (noneBent true) 3 three ≡ (114 ∷ 101 ∷ 115 ∷ 117 ∷ 108 ∷ 116 ∷ 61 ∷ 48 ∷ 10 ∷ 112 ∷ 111 ∷ 112 ∷ 115 ∷ 61 ∷ 51 ∷ 10 ∷ 119 ∷ 97 ∷ 121 ∷ 112 ∷ 111 ∷ 105 ∷ 110 ∷ 116 ∷ 115 ∷ 61 ∷ 51 ∷ 10 ∷ []) ++ ((99 ∷ 108 ∷ 101 ∷ 97 ∷ 114 ∷ 61 ∷ 49 ∷ 10 ∷ []) ++ (112 ∷ 111 ∷ 105 ∷ 110 ∷ 116 ∷ 61 ∷ 48 ∷ 44 ∷ 48 ∷ 10 ∷ 112 ∷ 111 ∷ 105 ∷ 110 ∷ 116 ∷ 61 ∷ 49 ∷ 44 ∷ 48 ∷ 10 ∷ 112 ∷ 111 ∷ 105 ∷ 110 ∷ 116 ∷ 61 ∷ 50 ∷ 44 ∷ 48 ∷ 10 ∷ [])))
       × (checkedText (checked.Judged false (Leg 2)) 3 three ≡ (114 ∷ 101 ∷ 115 ∷ 117 ∷ 108 ∷ 116 ∷ 61 ∷ 48 ∷ 10 ∷ 112 ∷ 111 ∷ 112 ∷ 115 ∷ 61 ∷ 51 ∷ 10 ∷ 119 ∷ 97 ∷ 121 ∷ 112 ∷ 111 ∷ 105 ∷ 110 ∷ 116 ∷ 115 ∷ 61 ∷ 51 ∷ 10 ∷ []) ++ ((99 ∷ 108 ∷ 101 ∷ 97 ∷ 114 ∷ 61 ∷ 48 ∷ 10 ∷ []) ++ (112 ∷ 111 ∷ 105 ∷ 110 ∷ 116 ∷ 61 ∷ 48 ∷ 44 ∷ 48 ∷ 10 ∷ 112 ∷ 111 ∷ 105 ∷ 110 ∷ 116 ∷ 61 ∷ 49 ∷ 44 ∷ 48 ∷ 10 ∷ 112 ∷ 111 ∷ 105 ∷ 110 ∷ 116 ∷ 61 ∷ 50 ∷ 44 ∷ 48 ∷ 10 ∷ [])))
   -- the setting read into another field: other settings are a new grid's
   pub setting : (settingsFor false .diagonal ≡ false) × (settingsFor false .improved ≡ true)

@@ -37,7 +37,7 @@ pickHeading false a b = b
 abbrev pub headingAt : Point → ℕ → Bool → ℕ → Heading
 headingAt p n line steps = pickHeading (eqb n 8) (Refused (Same p)) (pickHeading line (Straight (dir n) steps) (Bent (dir n) steps))
 
--- the direction from a to b: the sign of each coordinate difference, aligned or not
+-- the direction from a to b by the sign of each coordinate difference; straight where the points are in line, with its length, else bent, with the larger difference
 abbrev pub headingOf : Point → Point → Heading
 headingOf a b =
     headingAt a (compassOf (signOf (b .x -ℤ a .x)) (signOf (b .y -ℤ a .y)))

@@ -14,7 +14,7 @@ unfoldable pub ahead : ℕ → ℕ → Point → Point
 ahead zero d p = p
 ahead (suc n) d p = ahead n d (moved p d)
 
--- LAW: straight with the direction d and the length n exactly if n steps of d, at least one, lead from a to b
+-- LAW, for whoever drives a leg or takes one from outside: straight with the direction d and the length n exactly if n steps of d, at least one, lead from a to b
 pub record StraightLeads : Type 0 where
   pub leads : (a b : Point) (d : Direction) (n : ℕ) → headingOf a b ≡ Straight d n → (0 < n) × (d .number < 8) × (ahead n (d .number) a ≡ b)
   pub led : (a b : Point) (d n : ℕ) → 0 < n → ahead n d a ≡ b → headingOf a b ≡ Straight (dir (d % 8)) n

@@ -13,6 +13,11 @@ use Rattle.pairs.specs.Pairs.{point, pointAt}
 use Rattle.legs.specs.declared.Bend.{Bend}
 use Rattle.legs.specs.declared.Bend.the-variants.{Leg, None}
 
+-- the leg's number, 0 for none
+abbrev pub legNumber : Bend → ℕ
+legNumber (Leg k) = k
+legNumber None = 0
+
 -- the first bent leg of those that go on from waypoint k, the point p
 unfoldable pub bentFrom : ℕ → Point → List ℤ → Bend
 bentFrom k p [] = None

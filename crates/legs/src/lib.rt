@@ -4,12 +4,24 @@ ghost use Prim.Native.Nat.{_≤_};
 ghost use lib.ListN.{length};
 ghost use Rattle.pairs.specs.Pairs.{Even, firstBad};
 ghost use Rattle.pairs.specs.declared.Bad.the-variants.{Nowhere};
-ghost use Rattle.legs.specs.Legs.{firstBentOf};
+ghost use Rattle.legs.specs.Legs.{legNumber, firstBentOf};
 
 // A leg by its number, from 1, or none. Leg k goes from waypoint k to waypoint k + 1.
 pub enum Bend {
     Leg(usize),
     None,
+}
+
+impl Bend {
+    // The leg's number, 0 for none.
+    pub fn number(self) -> usize
+        ensures { λ r. ⌜ r ≡ legNumber self ⌝ }
+    {
+        match self {
+            Bend::Leg(k) => k,
+            Bend::None => 0,
+        }
+    }
 }
 
 // The first leg whose two waypoints are not in line.

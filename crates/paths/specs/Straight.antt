@@ -15,7 +15,7 @@ unfoldable pub lineOf : ℕ → ℕ → Point → List ℤ
 lineOf zero d p = []
 lineOf (suc n) d p = moved p d .x ∷ moved p d .y ∷ lineOf n d (moved p d)
 
--- LAW: a leg is straight exactly if its walk repeats one step; the walk is then the leg's length of steps of its direction
+-- LAW, for whoever drives a leg or takes one from outside: a leg is straight exactly if its walk repeats one step; the walk is then the leg's length of steps of its direction
 pub record StraightWalks : Type 0 where
   pub walks : (p q : Point) (d : Direction) (n : ℕ) → headingOf p q ≡ Straight d n → walkOf (spanOf p q) p q ≡ lineOf n (d .number) p
   pub straight : (p q : Point) (d n : ℕ) → 0 < n → walkOf (spanOf p q) p q ≡ lineOf n d p → headingOf p q ≡ Straight (dir (d % 8)) n

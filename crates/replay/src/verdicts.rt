@@ -5,17 +5,9 @@ use checks::Checked;
 use grid::Grid;
 use legs::Bend;
 
-// The number of a leg, 0 for none.
-fn leg(b: Bend) -> u64 {
-    match b {
-        Bend::Leg(k) => k as u64,
-        Bend::None => 0,
-    }
-}
-
 // 0 where the first bent leg is the one that s names.
 fn leg_wrong(b: Bend, s: &[u8]) -> u64 {
-    answers::unequal(leg(b), lists::u8_at(s, 6) as u64)
+    answers::unequal(b.number() as u64, lists::u8_at(s, 6) as u64)
 }
 
 // 0 where the answer is the one that s begins with: its result, the point that POINT carries, 1 if clear, and the first bent leg or 0.

@@ -7,8 +7,7 @@ use Rattle.points.specs.declared.Told.{Told}
 use Rattle.finder.specs.declared.Answer.{Answer}
 use Rattle.finder.specs.declared.Outcome.{Outcome}
 use Rattle.finder.specs.declared.Outcome.the-variants.{Found, Refused}
-use Rattle.legs.specs.declared.Bend.{Bend}
-use Rattle.legs.specs.declared.Bend.the-variants.{Leg, None}
+use Rattle.legs.specs.Legs.{legNumber}
 use Rattle.checks.specs.declared.Checked.{Checked}
 use Rattle.checks.specs.declared.Checked.the-variants.{Judged, Refused as RefusedCheck}
 use Rattle.paths.specs.declared.Written.{Written}
@@ -42,16 +41,11 @@ abbrev pub writtenReply : Written → Reply
 writtenReply (Points n) = valueReply n
 writtenReply (RefusedPath r) = toldReply (toldOf r)
 
--- a leg's number, 0 for none
-abbrev pub legOf : Bend → ℕ
-legOf (Leg k) = k
-legOf None = 0
-
 -- a refusal of the route check as numbers
 abbrev pub checkTold : Told → Check
 checkTold t = record { refusal = t .number; clear = 0; bent = 0; x = t .point .x; y = t .point .y }
 
 -- the route check's answer as numbers
 abbrev pub checkReply : Checked → Check
-checkReply (Judged clear bend) = record { refusal = 0; clear = markOf clear; bent = legOf bend; x = pos 0; y = pos 0 }
+checkReply (Judged clear bend) = record { refusal = 0; clear = markOf clear; bent = legNumber bend; x = pos 0; y = pos 0 }
 checkReply (RefusedCheck r) = checkTold (toldOf r)

@@ -1,11 +1,10 @@
 // Answers of several numbers for C and Rust: what a search and a call on a list tell.
 ghost use mathlib.Core.Path.{_≡_};
 ghost use Rattle.points.specs.Refusals.{toldOf};
-ghost use Rattle.replies.specs.Replies.{routeOf, valueReply, toldReply, writtenReply, legOf, checkReply};
+ghost use Rattle.replies.specs.Replies.{routeOf, valueReply, toldReply, writtenReply, checkReply};
 use checks::Checked;
 use finder::Answer;
 use finder::Outcome;
-use legs::Bend;
 use paths::Written;
 use points::Refusal;
 
@@ -105,16 +104,6 @@ pub struct Check {
     pub y: i32,
 }
 
-// A leg's number, 0 for none.
-fn leg(b: Bend) -> u64
-    ensures { λ r. ⌜ r ≡ legOf b ⌝ }
-{
-    match b {
-        Bend::Leg(k) => k as u64,
-        Bend::None => 0,
-    }
-}
-
 // The route check's answer as numbers.
 pub fn checked(c: Checked) -> Check
     ensures { λ r. ⌜ r ≡ checkReply c ⌝ }
@@ -123,7 +112,7 @@ pub fn checked(c: Checked) -> Check
         Checked::Judged(clear, bend) => Check {
             refusal: 0,
             clear: packing::mark(clear),
-            bent: leg(bend),
+            bent: bend.number() as u64,
             x: 0,
             y: 0,
         },

@@ -276,8 +276,8 @@ fn say_help(out: Out) -> Out {
 
 S is the start, G the goal, X both at once; s, g and x the same on a blocked cell.
 o is a waypoint, * a cell between two waypoints, # a blocked cell, . a free one.
-Below stand what came of the search, the first leg between two waypoints that is bent, if one is,
-and the pops of the search: the cells that it took up to look at.
+Below stand what came of the search, the first bent leg if there is one (from a waypoint to the next,
+but not in a straight line), and the pops of the search: the cells that it took up to look at.
 What is wrong with a map is said on standard error, and the other files are shown.
 ",
     ) {

@@ -14,8 +14,8 @@ enum-known-c c = search needs
 mark-requires : tie.Need-mark-requires
 mark-requires c κs = search needs
 
-leg-requires : tie.Need-leg-requires
-leg-requires c κs = search needs
+number-requires : tie.Need-number-requires
+number-requires c κs = search needs
 
 enum-known-c-2 : tie.Need-enum-known-c-2
 enum-known-c-2 c = search needs
@@ -23,11 +23,11 @@ enum-known-c-2 c = search needs
 told-requires : tie.Need-told-requires
 told-requires c κs = search needs
 
-cast-t10 : tie.Need-cast-t10
-cast-t10 c = search needs
+cast-t11 : tie.Need-cast-t11
+cast-t11 c = search needs
 
 returns : tie.Need-returns
-returns c = (λ i. record { refusal = 0; clear = c .before .mark .ensures i; bent = c .leg .ensures i; x = pos 0; y = pos 0 }) ∙ ap checkReply (sym (c .before .before .before .c .given .1))
+returns c = (λ i. record { refusal = 0; clear = c .before .mark .ensures i; bent = c .number .ensures i; x = pos 0; y = pos 0 }) ∙ ap checkReply (sym (c .before .before .before .c .given .1))
 
 returns-2 : tie.Need-returns-2
 returns-2 c =
@@ -41,9 +41,9 @@ checked-spec =
     (tie.spec
     enum-known-c
     mark-requires
-    leg-requires
+    number-requires
     enum-known-c-2
     told-requires
-    cast-t10
+    cast-t11
     returns
     returns-2)
