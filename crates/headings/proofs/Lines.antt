@@ -16,7 +16,7 @@ use Rattle.points.specs.declared.Point.{Point}
 use Rattle.points.specs.declared.Sign.{Sign}
 use Rattle.points.specs.declared.Sign.the-variants.{Minus, Zero, Plus}
 use Rattle.points.specs.declared.Refusal.the-variants.{Same, BadPoint}
-use Rattle.points.proofs.Halves.{up, dn, same, abs-is, add-is, sub-law, apart}
+use Rattle.points.proofs.Halves.{up, dn, signZ, same, abs-is, add-is, sub-law, apart}
 use Rattle.points.proofs.Signed.{parts, gap-le}
 use Rattle.bends.specs.declared.Heading.{Heading}
 use Rattle.bends.specs.declared.Heading.the-variants.{Straight, Bent, Refused}
@@ -27,10 +27,15 @@ use Rattle.headings.specs.Lines.{ahead, StraightLeads, BentNever}
 -- ---- a coordinate, and steps of a sign
 
 -- the step of a sign
-abbrev pub offset : Sign → ℤ
+abbrev offset : Sign → ℤ
 offset Minus = negsuc 0
 offset Zero = pos 0
 offset Plus = pos 1
+
+offset-is : (z : ℤ) → signZ z ≡ offset (signOf z)
+offset-is (pos zero) = refl
+offset-is (pos (suc n)) = refl
+offset-is (negsuc n) = refl
 
 -- n steps of a sign, as a difference and in size
 abbrev far : Sign → ℕ → ℤ
@@ -69,7 +74,7 @@ far-up Minus (suc n) = (refl, omega arith)
 far-up Zero n = (refl, refl)
 far-up Plus n = (omega arith, refl)
 
--- every difference is its own size of steps of its own sign; and so many, if it is 0 or of that size
+-- a difference that is 0, or n in size, is n steps of its own sign
 far-is : (z : ℤ) (n : ℕ) → (natAbs z ≡ 0) ⊎ (natAbs z ≡ n) → z ≡ far (signOf z) n
 far-is (pos zero) n h = refl
 far-is (pos (suc k)) n (inl e) = absurd (none k e)
@@ -310,8 +315,8 @@ module _ (a b : Point) where
     sign-y = ap signOf far-y ∙ far-sign (by .sy) n h
 
     -- the signs of the differences are those of d's step
-    pub ahead-signs : (offset (signOf zx) ≡ dxOf d) × (offset (signOf zy) ≡ dyOf d)
-    ahead-signs = (ap offset sign-x ∙ sym (by .across), ap offset sign-y ∙ sym (by .down))
+    pub ahead-signs : (signZ zx ≡ dxOf d) × (signZ zy ≡ dyOf d)
+    ahead-signs = (offset-is zx ∙ ap offset sign-x ∙ sym (by .across), offset-is zy ∙ ap offset sign-y ∙ sym (by .down))
 
     -- and so it is straight
     led : headingOf a b ≡ Straight (dir (d % 8)) n

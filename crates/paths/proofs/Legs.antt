@@ -4,37 +4,29 @@ use mathlib.Core.List.{List, _∷_}
 use Prim.Native.Nat.{ℕ, zero, suc, _-_, _*_, _%_, _<_}
 use native.Mathlib.Omega.{arith}
 use lib.Dec.{T}
-use lib.IntN.{ℤ, pos, _+ℤ_, _-ℤ_, +ℤ-idr}
+use lib.IntN.{ℤ, pos, _+ℤ_, _-ℤ_}
 use lib.ListN.{length, getD, drop}
 use Rattle.points.specs.Plane.{legal}
 use Rattle.points.specs.Compass.{dir, moved, signOf}
 use Rattle.points.specs.declared.Point.{Point}
 use Rattle.points.specs.declared.Direction.{Direction}
-use Rattle.points.specs.declared.Sign.{Sign}
-use Rattle.points.specs.declared.Sign.the-variants.{Minus, Zero, Plus}
 use Rattle.bends.specs.declared.Heading.{Heading}
 use Rattle.bends.specs.declared.Heading.the-variants.{Straight, Bent, Refused}
 use Rattle.bends.specs.Bends.{stepsOf}
 use Rattle.headings.specs.Headings.{headingOf, spanOf}
 use Rattle.headings.specs.Lines.{ahead}
-use Rattle.headings.proofs.Lines.{offset, ahead-signs, straight-leads, steps-span}
+use Rattle.headings.proofs.Lines.{ahead-signs, straight-leads, steps-span}
 use Rattle.paths.specs.Walks.{stepBy, nextTo, onwardTo, walkOf}
 use Rattle.paths.specs.Straight.{lineOf, StraightWalks}
-use Rattle.paths.proofs.Laws.{next-legal, walk-length}
+use Rattle.paths.proofs.Laws.{step-is, next-legal, walk-length}
 use Rattle.paths.proofs.Arrives.{after, arrives}
-
--- a step of a sign adds its offset
-step-offset : (a : ℤ) (s : Sign) → stepBy a s ≡ a +ℤ offset s
-step-offset a Minus = refl
-step-offset a Zero = sym (+ℤ-idr a)
-step-offset a Plus = refl
 
 -- where steps of one direction lead to q, the step by sign is that direction's
 next-moved : (d n : ℕ) (p q : Point) → 0 < n → ahead n d p ≡ q → nextTo p q ≡ moved p d
 next-moved d n p q h e =
     let z = ahead-signs p q d n h e in
-    let ex : stepBy (p .x) (signOf (q .x -ℤ p .x)) ≡ moved p d .x = step-offset (p .x) (signOf (q .x -ℤ p .x)) ∙ ap (λ (o : ℤ). p .x +ℤ o) (z .0) in
-    let ey : stepBy (p .y) (signOf (q .y -ℤ p .y)) ≡ moved p d .y = step-offset (p .y) (signOf (q .y -ℤ p .y)) ∙ ap (λ (o : ℤ). p .y +ℤ o) (z .1) in
+    let ex : stepBy (p .x) (signOf (q .x -ℤ p .x)) ≡ moved p d .x = sym (step-is (p .x) (q .x -ℤ p .x)) ∙ ap (λ (o : ℤ). p .x +ℤ o) (z .0) in
+    let ey : stepBy (p .y) (signOf (q .y -ℤ p .y)) ≡ moved p d .y = sym (step-is (p .y) (q .y -ℤ p .y)) ∙ ap (λ (o : ℤ). p .y +ℤ o) (z .1) in
     λ i. record { x = ex i; y = ey i }
 
 -- ---- what the heading h of a leg to q says at a point p of its walk, with so many steps left
