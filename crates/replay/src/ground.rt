@@ -117,12 +117,12 @@ fn refused(t: Told, a: Point, b: Point) -> u32 {
     REFUSED + t.number as u32 + 256 * carried(t, a, b)
 }
 
-fn heading(a: Point, b: Point) -> u32 {
+// A direction as the list has it: the number that hosts are told, or a refusal.
+fn heading(a: Point, b: Point) -> u64 {
     let h = headings::direction_to(a, b);
     match h {
-        Heading::Straight(d, n) => 16 * n as u32 + d.number as u32,
-        Heading::Bent(d, n) => 16 * n as u32 + 8 + d.number as u32,
-        Heading::Refused(r) => refused(r.told(), a, b),
+        Heading::Refused(r) => refused(r.told(), a, b) as u64,
+        _ => packing::direction(a, b),
     }
 }
 
@@ -134,7 +134,8 @@ pub fn measured(m: Measure, a: Point, b: Point) -> u32 {
 }
 
 fn heading_wrong(r: &[u8]) -> u64 {
-    (heading(far_point(r, 0), far_point(r, 8)) != lists::u32_at(r, 16)) as u64
+    let asked = heading(far_point(r, 0), far_point(r, 8));
+    answers::unequal(asked, lists::u32_at(r, 16) as u64)
 }
 
 // The distance between two points, or with a kind of 8 the scaled one, against the number at a place.
