@@ -1,4 +1,6 @@
 // What the direction from one point to another is answered as: straight or bent, and by how many steps.
+#![tactic(auto)]
+
 ghost use Rattle.std.specs.Prelude.{◌≡◌, max};
 ghost use Rattle.bends.specs.Bends.{way_of, steps_of, bent_of, in_line};
 
@@ -6,7 +8,7 @@ use points::{Direction, Refusal};
 
 // The direction from one point to another, or a refusal: straight with its length, where steps of that direction lead all the way;
 // else bent, with the larger of the two differences.
-#[derive(Drop)]
+#[derive(Clone, Copy)]
 pub enum Heading {
     Straight(Direction, usize),
     Bent(Direction, usize),
@@ -14,7 +16,7 @@ pub enum Heading {
 }
 
 // The direction of a first step; none is made from a point to itself.
-#[derive(Drop)]
+#[derive(Clone, Copy)]
 pub enum Way {
     Along(Direction),
     Still,

@@ -1,4 +1,6 @@
 // Barnsling for C and Rust: numbers and lent slices. A flag is 0 or not; no call trusts what it is passed.
+#![tactic(auto)]
+
 ghost use Rattle.std.specs.Prelude.{◌≡◌, false, ◌%◌, length};
 ghost use Rattle.headings.specs.Headings.{direction_of};
 ghost use Rattle.costs.specs.Cost.{distance_of};

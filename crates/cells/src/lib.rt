@@ -1,4 +1,6 @@
 // The numbers of a grid's cells: (x, y) has y * w + x, and w * h stands for a point outside.
+#![tactic(auto)]
+
 ghost use Rattle.std.specs.Prelude.{◌≡◌, ◌≤◌, ◌<◌};
 ghost use Rattle.cells.specs.Cells.{most_side, sized_of, place_of, cell_of, cell_to, Within};
 

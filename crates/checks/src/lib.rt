@@ -1,4 +1,6 @@
 // The route check: the walk along a list of waypoints held against the cells.
+#![tactic(auto)]
+
 ghost use Rattle.std.specs.Prelude.{◌≡◌, ◌*◌, ◌≤◌, T, length};
 ghost use Rattle.points.specs.Plane.{legal};
 ghost use Rattle.cells.specs.Cells.{most_side};
@@ -14,7 +16,7 @@ use pairs::Bad;
 use points::{Point, Refusal};
 
 // Whether a list is clear, and its first bent leg, clear or not; or a refusal, which names no leg.
-#[derive(Drop)]
+#[derive(Clone, Copy)]
 pub enum Checked {
     Judged(bool, Bend),
     Refused(Refusal),

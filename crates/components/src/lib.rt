@@ -1,4 +1,6 @@
 // The union-find of the components, over lent slices: a cell's parent, and its rank.
+#![tactic(auto)]
+
 ghost use Rattle.std.specs.Prelude.{◌≡◌, not, ◌≤◌, ◌<◌, ◌^◌, length, get_or, eqb};
 ghost use Rattle.components.specs.Components.{Forest, root_of, halve, linked, united};
 

@@ -1,4 +1,6 @@
 // Distances in the costs of moves, scaling by the heuristic's factor, and the settings of a search.
+#![tactic(auto)]
+
 ghost use Rattle.std.specs.Prelude.{◌≡◌, ◌*◌, ◌≤◌, T};
 ghost use Rattle.points.specs.Plane.{legal};
 ghost use Rattle.costs.specs.Cost.{farthest, cost_of, dist_of, distance_of};
@@ -14,7 +16,7 @@ const MOST_POPS: usize = 65535;
 const MOST_FRINGE: usize = 8192;
 
 // How a search is run: the heuristic's factor, the two flags and the three limits. The widest come first, the flags last: then no copy splits them.
-#[derive(Drop)]
+#[derive(Clone, Copy)]
 pub struct Settings {
     pub depth: usize,
     pub pops: usize,
@@ -25,7 +27,7 @@ pub struct Settings {
 }
 
 // A distance, or a refusal.
-#[derive(Drop)]
+#[derive(Clone, Copy)]
 pub enum Measure {
     Cost(u32),
     Refused(Refusal),

@@ -1,4 +1,6 @@
 // The eight directions by their numbers, each by a match: the pinned offsets, and turns.
+#![tactic(auto)]
+
 ghost use Rattle.std.specs.Prelude.{◌≡◌, ◌≤◌, ◌<◌, ◌+◌, ◌%◌};
 ghost use Rattle.directions.specs.Offsets.{off_x, off_y};
 

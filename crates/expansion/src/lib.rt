@@ -1,4 +1,6 @@
 // Expanding a cell and following one direction, which call each other: the remaining depth falls. Successors are offered to the search.
+#![tactic(auto)]
+
 ghost use Rattle.std.specs.Prelude.{◌≡◌, ◌+◌, ◌*◌, ◌^◌, ◌<◌, ◌≤◌, T, get_or};
 ghost use Rattle.points.specs.Plane.{legal};
 ghost use Rattle.goals.specs.Goals.{most_side};

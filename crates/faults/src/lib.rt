@@ -1,4 +1,6 @@
 // What is wrong with a map text at the line that its reader refuses.
+#![tactic(auto)]
+
 ghost use Rattle.std.specs.Prelude.{◌≡◌, ◌≤◌, length, drop};
 ghost use Rattle.faults.specs.Faults.{newlines, from_line, said_in, line_fault, counted, cells_fault, row_fault, fault_of};
 
@@ -7,7 +9,7 @@ use text::Num;
 // What is wrong with a text at the line that is refused. TooLong and ByteOrderMark speak of the whole text, Missing of a text that ends before the line,
 // TooMany of text after the last row, Form of a line that is not what its place asks. A letter that is no cell comes with its column, from 0, and its byte;
 // a row that is too short or too long with the count of its cells and the width.
-#[derive(Drop)]
+#[derive(Clone, Copy)]
 pub enum Fault {
     TooLong,
     ByteOrderMark,

@@ -1,4 +1,6 @@
 // The tables of a grid filled by the cells alone, in lent slices: zeros, each its own number, neighbour masks and forced masks.
+#![tactic(auto)]
+
 ghost use Rattle.std.specs.Prelude.{◌≡◌, ◌*◌, ◌^◌, ◌≤◌, ◌<◌, length, get_or};
 ghost use Rattle.masks.specs.Masks.{forced_of};
 ghost use Rattle.cells.specs.Cells.{most_side, Within};

@@ -1,4 +1,6 @@
 // The searches over lent tables, whose state is legal and is not tested, with their refusals in order and their waypoints.
+#![tactic(auto)]
+
 ghost use Rattle.std.specs.Prelude.{◌≡◌, ◌+◌, ◌*◌, length};
 ghost use Rattle.components.specs.Components.{Forest};
 ghost use Rattle.cells.specs.Cells.{Sides};
@@ -13,14 +15,14 @@ use search::Reply;
 use trails::Wrote;
 
 // The count of waypoints and the cost at the goal's pop, or a refusal.
-#[derive(Drop)]
+#[derive(Clone, Copy)]
 pub enum Outcome {
     Found(usize, u64),
     Refused(Refusal),
 }
 
 // What a search answers: its pops, 0 if it was refused before searching, and what came of it.
-#[derive(Drop)]
+#[derive(Clone, Copy)]
 pub struct Answer {
     pub pops: usize,
     pub outcome: Outcome,

@@ -1,4 +1,6 @@
 // Map texts as grids by value.
+#![tactic(auto)]
+
 ghost use Rattle.std.specs.Prelude.{◌≡◌, length};
 ghost use Rattle.cells.specs.Cells.{Sides};
 ghost use Rattle.floors.specs.Floors.{floor_grid, refused_map, read_of, shown_of, put_of, put_into};
@@ -9,7 +11,7 @@ use points::{Point, Refusal};
 
 // A map that was read: the grid, whose components are yet to be rebuilt, and what else the text says.
 // A refused text comes with a new free grid of 1 by 1.
-#[derive(Drop)]
+#[derive(Clone, Copy)]
 pub struct MapRead {
     pub outcome: Outcome,
     pub grid: Grid,
@@ -19,7 +21,7 @@ pub struct MapRead {
 }
 
 // How many bytes were written, or a refusal.
-#[derive(Drop)]
+#[derive(Clone, Copy)]
 pub enum Put {
     Bytes(usize),
     Refused(Refusal),

@@ -1,4 +1,6 @@
 // The search fringe: Rust's BinaryHeap over two lent slices, keys and indexes.
+#![tactic(auto)]
+
 ghost use Rattle.std.specs.Prelude.{◌≡◌, ◌+◌, ◌-◌, ◌<◌, ◌≤◌, length, take, drop};
 ghost use Rattle.sifts.specs.Sifts.{entry, entries, down};
 ghost use Rattle.fringe.specs.Fringe.{push, top, rest};

@@ -1,4 +1,6 @@
 // The goals of a search: their kinds, the goal test, and the estimate of what is left from a point.
+#![tactic(auto)]
+
 ghost use Rattle.std.specs.Prelude.{◌≡◌, ℕ, ◌+◌, ◌*◌, ◌^◌, ◌<◌, ◌≤◌, min, T, length};
 ghost use Rattle.points.specs.Plane.{legal};
 ghost use Rattle.costs.specs.Cost.{farthest};
@@ -11,7 +13,7 @@ const MOST_GOALS: usize = 64;
 
 // What a search looks for: one point, the neighbourhood of one point, or one of the first n points of a lent list of pairs.
 // The n of Several lies where the other kinds have their point's x, so that there is a number to be read there for each kind.
-#[derive(Drop)]
+#[derive(Clone, Copy)]
 pub enum Goal {
     Exact(Point),
     Near(Point),
@@ -19,7 +21,7 @@ pub enum Goal {
 }
 
 // What stays the same in one search: the start, the goal, the sides, the number of the goal's cell (stops::goal_cell) and the settings. In this order no copy splits what is read after it.
-#[derive(Drop)]
+#[derive(Clone, Copy)]
 pub struct Plan {
     pub start: Point,
     pub goal: Goal,
@@ -30,14 +32,14 @@ pub struct Plan {
 }
 
 // How many goals a list holds, or GOALS.
-#[derive(Drop)]
+#[derive(Clone, Copy)]
 pub enum Listed {
     Goals(u32),
     Refused(Refusal),
 }
 
 // The first point of a list that is out of range, if any.
-#[derive(Drop)]
+#[derive(Clone, Copy)]
 pub enum Misplaced {
     At(Point),
     Nowhere,

@@ -1,4 +1,6 @@
 // The public calls on a grid by value. Every grid value is legal input: each call tests what it rests on, and a refusal leaves the grid as it came.
+#![tactic(auto)]
+
 ghost use Rattle.std.specs.Prelude.{◌≡◌};
 ghost use Rattle.cells.specs.Cells.{Sides};
 ghost use Rattle.grid.specs.Grids.{legal_of, stated_of, located_of, asked_of, new_grid, rebuild_grid, new_outcome, set_outcome, rebuild_outcome, update_outcome};
@@ -7,7 +9,7 @@ ghost use Rattle.grid.specs.Questions.{verdict_of, component_at, neighbour_mask_
 use points::{Direction, Point, Refusal};
 
 // The cell (x, y) has the number y * width + x in each table. A blocked byte is 0 where the cell is free.
-#[derive(Drop)]
+#[derive(Clone, Copy)]
 pub struct Grid {
     pub width: usize,
     pub height: usize,
@@ -19,32 +21,32 @@ pub struct Grid {
     pub rank: [u8; 4096],
 }
 
-#[derive(Drop)]
+#[derive(Clone, Copy)]
 pub enum Outcome {
     Done,
     Refused(Refusal),
 }
 
 // What a call that changes a grid answers: the grid afterwards, the same one where it is refused.
-#[derive(Drop)]
+#[derive(Clone, Copy)]
 pub struct Change {
     pub outcome: Outcome,
     pub grid: Grid,
 }
 
-#[derive(Drop)]
+#[derive(Clone, Copy)]
 pub enum Component {
     Is(usize),
     Refused(Refusal),
 }
 
-#[derive(Drop)]
+#[derive(Clone, Copy)]
 pub enum Mask {
     Is(u8),
     Refused(Refusal),
 }
 
-#[derive(Drop)]
+#[derive(Clone, Copy)]
 pub enum Verdict {
     Yes,
     No,

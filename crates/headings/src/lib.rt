@@ -1,4 +1,6 @@
 // The direction from one point to another, by the sign of each coordinate difference, and how many steps lead there.
+#![tactic(auto)]
+
 ghost use Rattle.std.specs.Prelude.{◌≡◌, T};
 ghost use Rattle.points.specs.Plane.{legal};
 ghost use Rattle.headings.specs.Headings.{by_sign, compass_of, heading_of, direction_of};

@@ -1,4 +1,6 @@
 // The joins of a cell with its free neighbours, over lent slices. The state is legal, and is not tested.
+#![tactic(auto)]
+
 ghost use Rattle.std.specs.Prelude.{◌≡◌, ◌*◌, ◌^◌, ◌≤◌, ◌<◌, length};
 ghost use Rattle.components.specs.Components.{Forest};
 ghost use Rattle.cells.specs.Cells.{Within};

@@ -1,4 +1,6 @@
 // Jumps over the cells of a grid.
+#![tactic(auto)]
+
 ghost use Rattle.std.specs.Prelude.{◌≡◌, ◌<◌, ◌≤◌};
 ghost use Rattle.stops.specs.Stops.{Within, Inside, number_of};
 ghost use Rattle.looks.specs.Looks.{Floor};

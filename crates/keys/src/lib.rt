@@ -1,4 +1,6 @@
 // The key of a fringe entry: larger where the estimate is smaller, or the same and the cost larger.
+#![tactic(auto)]
+
 ghost use Rattle.std.specs.Prelude.{◌≡◌, ◌^◌, ◌<◌};
 ghost use Rattle.keys.specs.Keys.{key_of, cost_of};
 

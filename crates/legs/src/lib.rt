@@ -1,11 +1,13 @@
 // The first leg of a list of waypoints that is bent.
+#![tactic(auto)]
+
 ghost use Rattle.std.specs.Prelude.{◌≡◌, ◌≤◌, length};
 ghost use Rattle.pairs.specs.Pairs.{Even, first_bad};
 ghost use Rattle.pairs.specs.declared.Bad.TheVariants.{Nowhere};
 ghost use Rattle.legs.specs.Legs.{leg_number, first_bent_of};
 
 // A leg by its number, from 1, or none. Leg k goes from waypoint k to waypoint k + 1.
-#[derive(Drop)]
+#[derive(Clone, Copy)]
 pub enum Bend {
     Leg(usize),
     None,

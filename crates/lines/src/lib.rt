@@ -1,4 +1,6 @@
 // Lines of a text: the reader. A line is a word, a number or a point, and a newline; what was read comes with the count of the line's bytes.
+#![tactic(auto)]
+
 ghost use Rattle.std.specs.Prelude.{◌≡◌, ◌≤◌, drop};
 ghost use Rattle.lines.specs.Lines.{starts_with, number_line, point_line};
 

@@ -1,4 +1,6 @@
 // Numbers in a list of bytes, least byte first. Past the list's end every byte reads as 0, so no place in it is out of bounds.
+#![tactic(auto)]
+
 ghost use Rattle.std.specs.Prelude.{◌≡◌, ◌≤◌, ◌<◌, negsuc};
 ghost use Rattle.std.specs.Float.Ieee.{of_bits};
 ghost use Rattle.std.specs.Float.{binary32};

@@ -1,4 +1,6 @@
 // Straight jumps from a cell, and whether one finds something: what a jump looks for at each cell that it passes.
+#![tactic(auto)]
+
 ghost use Rattle.std.specs.Prelude.{◌≡◌, not, ◌+◌, ◌%◌, ◌<◌, ◌≤◌};
 ghost use Rattle.goals.specs.Goals.{both, either};
 ghost use Rattle.stops.specs.Stops.{Within};

@@ -1,4 +1,6 @@
 // The map text: its writer. Each function writes at a place of a lent room.
+#![tactic(auto)]
+
 ghost use Rattle.std.specs.Prelude.{◌≡◌, ◌+◌, ◌*◌, ◌≤◌, length, drop};
 ghost use Rattle.std.proofs.lemmas.List.Edits.{sets};
 ghost use Rattle.maps.specs.Maps.{Fair, most_text};

@@ -1,4 +1,6 @@
 // The map text: the reader of its header and of the whole, over a lent table of cells.
+#![tactic(auto)]
+
 ghost use Rattle.std.specs.Prelude.{◌≡◌, ◌*◌, ◌≤◌, length, drop};
 ghost use Rattle.cells.specs.Cells.{most_side};
 ghost use Rattle.maps.specs.Maps.{size_line, flag_line, head_of, map_of, cells_into};
@@ -11,7 +13,7 @@ use text::{Num, Pair};
 pub const TEXT: usize = 8192;
 
 // What the lines before the rows say.
-#[derive(Drop)]
+#[derive(Clone, Copy)]
 pub struct Header {
     pub width: usize,
     pub height: usize,
@@ -21,14 +23,14 @@ pub struct Header {
 }
 
 // A header that was read, with the count of its bytes, or the first bad line.
-#[derive(Drop)]
+#[derive(Clone, Copy)]
 pub enum Head {
     Of(Header, usize),
     Bad(usize),
 }
 
 // A map that was read, or the first bad line.
-#[derive(Drop)]
+#[derive(Clone, Copy)]
 pub enum Reading {
     Map(Header),
     Bad(usize),

@@ -1,4 +1,6 @@
 // Masks of a cell's eight neighbours: a bit, the forced mask, and the pruned mask of a direction of travel.
+#![tactic(auto)]
+
 ghost use Rattle.std.specs.Prelude.{◌≡◌, ◌%◌};
 ghost use Rattle.masks.specs.Masks.{has_bit, forced_of, straight_of, pruned_in};
 

@@ -1,10 +1,12 @@
 // The nodes of a search: a table from cell to insertion number, with one extra place for an outside start, and by insertion number the place, the parent and the cost.
+#![tactic(auto)]
+
 ghost use Rattle.std.specs.Prelude.{◌≡◌, ◌<◌};
 ghost use Rattle.nodes.specs.Nodes.{Able, nodes, note, note_of};
 
 // What recording a successor did: whether it was taken, its insertion number, and how many nodes there are now.
 #[repr(C)]
-#[derive(Drop)]
+#[derive(Clone, Copy)]
 pub struct Noted {
     pub kept: bool,
     pub index: usize,

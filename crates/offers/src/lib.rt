@@ -1,4 +1,6 @@
 // Offering a successor to a search: it is recorded if it is new or strictly cheaper, and then pushed onto the fringe.
+#![tactic(auto)]
+
 ghost use Rattle.std.specs.Prelude.{◌≡◌, ◌^◌, ◌<◌, ◌≤◌, length};
 ghost use Rattle.goals.specs.Goals.{point_of};
 ghost use Rattle.offers.specs.Search.{Sides, Lent, area_of, place_point, guess_at, out_of, view, offer_of};
@@ -7,21 +9,21 @@ use goals::Plan;
 use points::{Point, Refusal};
 
 // How many nodes and how many fringe entries there are.
-#[derive(Drop)]
+#[derive(Clone, Copy)]
 pub struct Mark {
     pub count: usize,
     pub heap: usize,
 }
 
 // Whether a search goes on.
-#[derive(Drop)]
+#[derive(Clone, Copy)]
 pub enum Fate {
     Done,
     Refused(Refusal),
 }
 
 // The counts after a step, and its fate. They stand side by side: in an enum each would be copied in the other's pieces.
-#[derive(Drop)]
+#[derive(Clone, Copy)]
 pub struct Step {
     pub mark: Mark,
     pub fate: Fate,

@@ -1,5 +1,7 @@
 // Numbers for C and Rust: flags, points and settings made of them, and answers packed into them.
 // An answer of one number is below 2^32; a refusal is its number times 2^32. Of a call on two points, POINT has 256 more where it is about the first, 512 more where about the second.
+#![tactic(auto)]
+
 ghost use Rattle.std.specs.Prelude.{◌≡◌};
 ghost use Rattle.headings.specs.Headings.{direction_of};
 ghost use Rattle.costs.specs.Cost.{distance_of};

@@ -1,11 +1,13 @@
 // Lists of points: a slice of numbers, x and y in turn.
+#![tactic(auto)]
+
 ghost use Rattle.std.specs.Prelude.{◌≡◌, ◌+◌, ◌<◌, length, set};
 ghost use Rattle.pairs.specs.Pairs.{Even, point_at, first_bad};
 
 use points::Point;
 
 // The first point out of range.
-#[derive(Drop)]
+#[derive(Clone, Copy)]
 pub enum Bad {
     At(Point),
     Nowhere,

@@ -1,4 +1,6 @@
 // Waypoints walked into a path.
+#![tactic(auto)]
+
 ghost use Rattle.std.specs.Prelude.{◌≡◌, ◌+◌, ◌*◌, ◌≤◌, T, length};
 ghost use Rattle.std.proofs.lemmas.List.Edits.{sets};
 ghost use Rattle.points.specs.Plane.{in_range, legal};
@@ -12,14 +14,14 @@ use pairs::Bad;
 use points::{Point, Refusal, Sign};
 
 // How many points were written, or a refusal.
-#[derive(Drop)]
+#[derive(Clone, Copy)]
 pub enum Written {
     Points(usize),
     Refused(Refusal),
 }
 
 // How many points there are, or more than there is room for.
-#[derive(Drop)]
+#[derive(Clone, Copy)]
 pub enum Counted {
     Few(usize),
     Over,

@@ -1,4 +1,6 @@
 // What is tested before a search, and its plan.
+#![tactic(auto)]
+
 ghost use Rattle.std.specs.Prelude.{◌≡◌, ◌*◌};
 ghost use Rattle.components.specs.Components.{Forest};
 ghost use Rattle.cells.specs.Cells.{Sides};
@@ -9,7 +11,7 @@ use goals::{Goal, Plan};
 use points::Point;
 
 // The lengths of the lent working room.
-#[derive(Drop)]
+#[derive(Clone, Copy)]
 pub struct Lengths {
     pub number: usize,
     pub place: usize,

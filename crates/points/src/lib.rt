@@ -1,24 +1,26 @@
 // Points, directions and refusals. Signed coordinates are worked on here alone.
+#![tactic(auto)]
+
 ghost use Rattle.std.specs.Prelude.{◌≡◌, ◌≤◌, ◌<◌, ◌+◌, ◌%◌, T, ◌-ℤ◌, nat_abs};
 ghost use Rattle.points.specs.Plane.{in_range, legal};
 ghost use Rattle.points.specs.Compass.{dx_of, dy_of, moved, sign_of, diagonal_of, split_of, clockwise, counterclockwise};
 ghost use Rattle.points.specs.Refusals.{bare, pointed, lined, told_of};
 
 // A place of the plane.
-#[derive(Drop)]
+#[derive(Clone, Copy)]
 pub struct Point {
     pub x: i32,
     pub y: i32,
 }
 
 // One of the eight directions; the number is read modulo 8.
-#[derive(Drop)]
+#[derive(Clone, Copy)]
 pub struct Direction {
     pub number: u8,
 }
 
 // The sign of a difference.
-#[derive(Drop)]
+#[derive(Clone, Copy)]
 pub enum Sign {
     Minus,
     Zero,
@@ -26,7 +28,7 @@ pub enum Sign {
 }
 
 // Why a call of the library is refused.
-#[derive(Drop)]
+#[derive(Clone, Copy)]
 pub enum Refusal {
     Size,
     State,
@@ -45,7 +47,7 @@ pub enum Refusal {
 }
 
 // A refusal as plain numbers: its own, the line of MAP, and the point of SAME and POINT; 0 where it carries none.
-#[derive(Drop)]
+#[derive(Clone, Copy)]
 pub struct Told {
     pub number: u8,
     pub line: usize,
@@ -53,7 +55,7 @@ pub struct Told {
 }
 
 // A diagonal's cardinal along x and its cardinal along y; a cardinal is whole.
-#[derive(Drop)]
+#[derive(Clone, Copy)]
 pub enum Parts {
     Pair(Direction, Direction),
     Whole,

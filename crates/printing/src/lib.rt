@@ -1,4 +1,6 @@
 // Numbers, points and lines of text: the writer. Each function writes at a place and hands back the place after it.
+#![tactic(auto)]
+
 ghost use Rattle.std.specs.Prelude.{◌≡◌, cond, ◌+◌, ◌≤◌, ◌<◌, T, length};
 ghost use Rattle.std.proofs.lemmas.List.Edits.{sets};
 ghost use Rattle.points.specs.Plane.{in_range, legal};

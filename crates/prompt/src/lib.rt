@@ -1,5 +1,7 @@
 // What the programs `route` and `show` say alike, in words: what is wrong, on standard error, and help.
 // A program names itself as `route: `, with the colon and the space.
+#![tactic(auto)]
+
 use faults::Fault;
 use libc::{STDERR_FILENO, STDOUT_FILENO};
 use maps::Reading;

@@ -1,4 +1,6 @@
 // The questions about components, over the cells' numbers: w * h stands for a point outside. The state is legal, and is not tested.
+#![tactic(auto)]
+
 ghost use Rattle.std.specs.Prelude.{◌≡◌, not, ◌*◌, ◌<◌};
 ghost use Rattle.components.specs.Components.{Forest};
 ghost use Rattle.cells.specs.Cells.{Within, Sides};

@@ -1,4 +1,6 @@
 // The rebuild of a grid's components over lent slices, and the update, which rebuilds if dirty. The state is legal where it is asked for, and is not tested.
+#![tactic(auto)]
+
 ghost use Rattle.std.specs.Prelude.{◌≡◌, false, cond, ◌*◌, ◌≤◌, ◌<◌, length};
 ghost use Rattle.components.specs.Components.{Forest, Light};
 ghost use Rattle.cells.specs.Cells.{Sides, Within};

@@ -1,4 +1,6 @@
 // An edit of a cell in lent tables: the cell, the neighbour masks around it, and the forced masks of the neighbourhood.
+#![tactic(auto)]
+
 ghost use Rattle.std.specs.Prelude.{◌≡◌, ◌+◌, ◌*◌, ◌≤◌, ◌<◌, length, get_or, set, eqb, not, cond, ◌&&◌};
 ghost use Rattle.cells.specs.Cells.{Within};
 ghost use Rattle.refresh.specs.Refresh.{with_bit, touched, allowed_of, fixed, fixed_all, masks_after, forced_after};

@@ -7,7 +7,7 @@ use points::{Point, Refusal};
 pub const UNTOUCHED: i32 = 77777;
 
 // Answers that were compared: the place of their count in the totals, how many they are, and how many differ.
-#[derive(Drop)]
+#[derive(Clone, Copy)]
 pub struct Tally {
     pub place: usize,
     pub count: u64,

@@ -2,6 +2,8 @@
 //
 // A list is a run of blocks, each a length of four bytes and as many bytes. The first of them is the block's kind, by the program of
 // oracle/tools that printed it: 1 ground, 2 tables, 3 searches, 4 paths, 5 checks, 6 texts.
+#![tactic(auto)]
+
 mod answers; // what is compared and counted
 mod blocks; // the next block, and what is printed
 mod examples;
@@ -17,7 +19,7 @@ use answers::Tally;
 use grid::Grid;
 
 // The grid in hand, its flag, what was counted of each kind of answer, and the differences.
-#[derive(Drop)]
+#[derive(Clone, Copy)]
 struct Run {
     grid: Grid,
     diagonal: bool,

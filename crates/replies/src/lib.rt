@@ -1,4 +1,6 @@
 // Answers of several numbers for C and Rust: what a search and a call on a list tell.
+#![tactic(auto)]
+
 ghost use Rattle.std.specs.Prelude.{◌≡◌};
 ghost use Rattle.points.specs.Refusals.{told_of};
 ghost use Rattle.replies.specs.Replies.{route_of, value_reply, told_reply, written_reply, check_reply};
@@ -10,7 +12,7 @@ use points::Refusal;
 
 // What a search answers, as numbers: its refusal or 0, its pops, how many waypoints were written, the cost at the goal's pop, and the point that a refusal concerns.
 #[repr(C)]
-#[derive(Drop)]
+#[derive(Clone, Copy)]
 pub struct Route {
     pub refusal: u64,
     pub pops: u64,
@@ -52,7 +54,7 @@ pub fn routed(a: Answer) -> Route
 
 // What a call on a list answers, as numbers: its refusal or 0, its value, and the point that a refusal concerns.
 #[repr(C)]
-#[derive(Drop)]
+#[derive(Clone, Copy)]
 pub struct Reply {
     pub refusal: u64,
     pub value: u64,
@@ -98,7 +100,7 @@ pub fn written(w: Written) -> Reply
 
 // What the route check answers, as numbers: its refusal or 0, 1 where clear, the first bent leg or 0, and the point that a refusal concerns.
 #[repr(C)]
-#[derive(Drop)]
+#[derive(Clone, Copy)]
 pub struct Check {
     pub refusal: u64,
     pub clear: u64,

@@ -1,4 +1,6 @@
 // The lent working room of a search: cleared, and with the start in it. What it held before is lost.
+#![tactic(auto)]
+
 ghost use Rattle.std.specs.Prelude.{◌≡◌, ◌+◌, ◌≤◌, length, replicate};
 ghost use Rattle.offers.specs.Search.{Sides, area_of, view, begin};
 ghost use Rattle.rooms.specs.Rooms.{Room};

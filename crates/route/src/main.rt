@@ -1,5 +1,7 @@
 // Reads a map on standard input, or in the file that is named, to its end and prints the route, as the document has it.
 // What is wrong with a map is said in words too, on standard error.
+#![tactic(auto)]
+
 use libc::{STDERR_FILENO, STDIN_FILENO, STDOUT_FILENO};
 
 fn say_help() {

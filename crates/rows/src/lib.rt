@@ -1,11 +1,13 @@
 // The rows of a map text: their reader, over a lent table of cells.
+#![tactic(auto)]
+
 ghost use Rattle.std.specs.Prelude.{◌≡◌, ◌+◌, ◌*◌, ◌≤◌, length, drop};
 ghost use Rattle.std.proofs.lemmas.List.Edits.{sets};
 ghost use Rattle.cells.specs.Cells.{most_side};
 ghost use Rattle.rows.specs.Rows.{is_cell, mark_of, marks, cells_then, row_ok, rows_of, cells_of};
 
 // Whether the rows are all good, or the first bad line.
-#[derive(Drop)]
+#[derive(Clone, Copy)]
 pub enum Rows {
     Good,
     Bad(usize),

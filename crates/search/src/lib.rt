@@ -1,4 +1,6 @@
 // The search's loop over lent tables and lent working room.
+#![tactic(auto)]
+
 ghost use Rattle.std.specs.Prelude.{◌≡◌, ◌+◌, ◌^◌, ◌<◌, ◌≤◌, T};
 ghost use Rattle.points.specs.Plane.{legal};
 ghost use Rattle.fringe.specs.Fringe.{top};
@@ -13,7 +15,7 @@ use offers::{Fate, Mark, Step};
 use points::Refusal;
 
 // What one pop comes to: a popped goal with its cost, sizes to go on from, or a refusal.
-#[derive(Drop)]
+#[derive(Clone, Copy)]
 pub enum Turn {
     Hit(usize, u64, Mark),
     On(Mark),
@@ -21,7 +23,7 @@ pub enum Turn {
 }
 
 // The popped goal's node and cost with the pops and the sizes, or a refusal with the pops.
-#[derive(Drop)]
+#[derive(Clone, Copy)]
 pub enum Reply {
     Found(usize, u64, usize, Mark),
     Refused(Refusal, usize),

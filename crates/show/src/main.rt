@@ -1,6 +1,8 @@
 // Reads a map on standard input, or those in the files that are named, and draws each floor with its route:
 // S start, G goal, X both, as small letters where the cell is blocked; o waypoint, * walked, # blocked, . free.
 // What came of the search stands under it, in words.
+#![tactic(auto)]
+
 use checks::Checked;
 use finder::{Answer, Outcome};
 use grid::Grid;
@@ -10,7 +12,7 @@ use points::{Point, Refusal};
 
 // What became of standard output. Nothing is written yet, and one floor alone is to be (Alone) or several (Fresh); something is written (Begun);
 // or a write failed, which was told (Failed).
-#[derive(Drop)]
+#[derive(Clone, Copy)]
 enum Out {
     Alone,
     Fresh,

@@ -1,10 +1,12 @@
 // The entries of Rust's BinaryHeap over two lent slices, keys and indexes: a copy, the larger child, and sift_up.
+#![tactic(auto)]
+
 ghost use Rattle.std.specs.Prelude.{◌≡◌, ◌+◌, ◌<◌, ◌≤◌, length, drop, set, get_or};
 ghost use Rattle.sifts.specs.Sifts.{entry, entries, up, larger_of};
 
 // What the heap orders: the largest key is popped first; the index rides along.
 #[repr(C)]
-#[derive(Drop)]
+#[derive(Clone, Copy)]
 pub struct Entry {
     pub key: u64,
     pub index: u32,

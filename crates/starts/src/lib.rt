@@ -1,4 +1,6 @@
 // The start's free neighbours, and one of them offered. The start may be outside the grid.
+#![tactic(auto)]
+
 ghost use Rattle.std.specs.Prelude.{◌≡◌, not, ◌+◌, ◌%◌, ◌^◌, ◌<◌, T, eqb, length};
 ghost use Rattle.points.specs.Plane.{legal};
 ghost use Rattle.goals.specs.Goals.{both};
@@ -11,7 +13,7 @@ use offers::{Fate, Mark, Step};
 use points::Direction;
 
 // The number of a free neighbour, or nothing.
-#[derive(Drop)]
+#[derive(Clone, Copy)]
 pub enum Neighbour {
     At(usize),
     Nothing,

@@ -1,4 +1,6 @@
 // The test behind STATE, over lent slices: a cell's parent, and its rank.
+#![tactic(auto)]
+
 ghost use Rattle.std.specs.Prelude.{◌≡◌, true, ◌+◌, ◌≤◌, ◌<◌, ◌^◌, length, get_or};
 ghost use Rattle.states.specs.States.{all_to, cell_ok, state_ok};
 ghost use Rattle.states.specs.Blocks.{Each, Near, NextRoot};

@@ -1,5 +1,7 @@
 // The cells that a jump passes, and where it stops: a cell's point, number and byte, whether it is free, a goal or forced, and the price of a step.
 // A cell's x and y are one more than its column and row, so that a step off the grid is still a number.
+#![tactic(auto)]
+
 ghost use Rattle.std.specs.Prelude.{◌≡◌, ◌*◌, ◌<◌, ◌≤◌};
 ghost use Rattle.goals.specs.Goals.{most_side, point_of, goal_at, Aimed};
 ghost use Rattle.stops.specs.Stops.{Sized, Within, Placed, Held, Marked, spot_of, number_of, byte_at, free_at, stops_at, stops_in, target_in, price_of};
@@ -8,14 +10,14 @@ use goals::{Goal, Plan};
 use points::Point;
 
 // A cell, by one more than its column and row.
-#[derive(Drop)]
+#[derive(Clone, Copy)]
 pub struct Cell {
     pub x: usize,
     pub y: usize,
 }
 
 // What a jump finds: a cell with its cost, or nothing.
-#[derive(Drop)]
+#[derive(Clone, Copy)]
 pub enum Jump {
     At(Cell, u64),
     Nothing,

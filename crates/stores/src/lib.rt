@@ -1,4 +1,6 @@
 // One entry of a lent table, stored only where its value differs: a host may copy every byte that is stored to.
+#![tactic(auto)]
+
 ghost use Rattle.std.specs.Prelude.{◌≡◌, ◌^◌, ◌<◌, length, get_or, set};
 
 // Entry i of a table of bytes becomes v.

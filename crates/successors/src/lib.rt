@@ -1,4 +1,6 @@
 // What an expansion is made of: a node's parent, the next direction of a mask, whether a cell is expanded again, and a successor that is offered.
+#![tactic(auto)]
+
 ghost use Rattle.std.specs.Prelude.{◌≡◌, true, ◌%◌, ◌^◌, ◌<◌, ◌≤◌, length};
 ghost use Rattle.masks.specs.Masks.{has_bit};
 ghost use Rattle.goals.specs.Goals.{Aimed};
@@ -11,7 +13,7 @@ use offers::{Mark, Step};
 use stops::Cell;
 
 // The parent of a node: a node by its number, or nothing.
-#[derive(Drop)]
+#[derive(Clone, Copy)]
 pub enum Parent {
     Node(usize),
     Nothing,

@@ -1,4 +1,6 @@
 // The tables of a grid over lent slices: a new one, an edit. The state is legal where it is asked for, and is not tested.
+#![tactic(auto)]
+
 ghost use Rattle.std.specs.Prelude.{◌≡◌, false, ◌*◌};
 ghost use Rattle.components.specs.Components.{Forest};
 ghost use Rattle.cells.specs.Cells.{Sides, Within};

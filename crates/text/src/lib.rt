@@ -1,25 +1,27 @@
 // Numbers and points of a text: the reader. A text is a slice of bytes and a place in it; what was read comes with the count of its bytes.
+#![tactic(auto)]
+
 ghost use Rattle.std.specs.Prelude.{◌≡◌, ◌+◌, ◌≤◌, ◌<◌, length, drop};
 ghost use Rattle.text.specs.Grammar.{more_of, number_of, coord_of, pair_of};
 
 use points::Point;
 
 // A number that was read, with the count of its bytes.
-#[derive(Drop)]
+#[derive(Clone, Copy)]
 pub enum Num {
     Whole(u32, usize),
     Wrong,
 }
 
 // A coordinate that was read, with the count of its bytes.
-#[derive(Drop)]
+#[derive(Clone, Copy)]
 pub enum Coord {
     At(i32, usize),
     Off,
 }
 
 // Two coordinates that were read, with the count of their bytes.
-#[derive(Drop)]
+#[derive(Clone, Copy)]
 pub enum Pair {
     Both(Point, usize),
     Neither,

@@ -1,4 +1,6 @@
 // The waypoints of a search: the recorded parents from the popped goal back to the start, written in the order from the start.
+#![tactic(auto)]
+
 ghost use Rattle.std.specs.Prelude.{◌≡◌, [], ◌+◌, ◌*◌, ◌<◌, ◌≤◌, length, get_or, set};
 ghost use Rattle.std.proofs.lemmas.List.Edits.{sets};
 ghost use Rattle.trails.specs.Trail.{Climbs, Located, Tall, route_of, pairs, wrote_of, left_in};
@@ -7,7 +9,7 @@ use goals::Plan;
 use points::Point;
 
 // How many points were written, or that they are more than the room holds.
-#[derive(Drop)]
+#[derive(Clone, Copy)]
 pub enum Wrote {
     Written(usize),
     Room,

@@ -1,4 +1,6 @@
 // The searches on a grid by value, with lent working room and lent output. Every grid, every setting and all room is legal input.
+#![tactic(auto)]
+
 ghost use Rattle.std.specs.Prelude.{◌≡◌, length};
 ghost use Rattle.finder.specs.Find.{lengths_of, answer_of, out_after};
 ghost use Rattle.waypoints.specs.Waypoints.{single_of, several_of, single_plan, several_plan};
