@@ -6,7 +6,7 @@ ghost use Rattle.headings.specs.Headings.{direction_of};
 ghost use Rattle.costs.specs.Cost.{distance_of};
 ghost use Rattle.costs.specs.Scale.{scaled_of};
 ghost use Rattle.masks.specs.Masks.{forced_of, pruned_in};
-ghost use Rattle.finder.specs.Find.{ground, lengths_of, answer_of, out_after, single_plan, several_plan};
+ghost use Rattle.finder.specs.Find.{lent_ground, lengths_of, answer_of, out_after, single_plan, several_plan};
 ghost use Rattle.packing.specs.Packing.{flag_of, point_of, heading_packed, measure_packed, settings_of};
 ghost use Rattle.replies.specs.Replies.{route_of};
 ghost use Rattle.boundary.specs.Searches.{single_lent, several_lent};
@@ -22,24 +22,21 @@ pub mod texts;
 pub mod walks;
 
 // The number of this interface, which the header and the Rust crate name too: it rises where a declaration, what an answer says or its form, or a refusal's number changes.
-#[unsafe(no_mangle)]
-pub extern "C" fn barnsling_version() -> u32
+pub fn barnsling_version() -> u32
     ensures { result ≡ 4 }
 {
     4
 }
 
 // The forced mask of a neighbour mask.
-#[unsafe(no_mangle)]
-pub extern "C" fn barnsling_forced_mask(neighbours: u8) -> u8
+pub fn barnsling_forced_mask(neighbours: u8) -> u8
     ensures { result ≡ forced_of neighbours }
 {
     masks::forced_mask(neighbours)
 }
 
 // The pruned mask for travel in a direction, read modulo 8.
-#[unsafe(no_mangle)]
-pub extern "C" fn barnsling_pruned_mask(diagonal: u8, direction: u8, neighbours: u8) -> u8
+pub fn barnsling_pruned_mask(diagonal: u8, direction: u8, neighbours: u8) -> u8
     ensures { result ≡ pruned_in (flag_of diagonal) (direction % 8) neighbours }
 {
     masks::pruned_mask(flag(diagonal), direction, neighbours)
@@ -47,24 +44,21 @@ pub extern "C" fn barnsling_pruned_mask(diagonal: u8, direction: u8, neighbours:
 
 // The direction from a to b, 8 more where it is bent, and 16 times how many steps lead there; or 2^32 * refusal, where POINT has 256 more for the
 // first point and 512 more for the second. Refuses POINT, SAME.
-#[unsafe(no_mangle)]
-pub extern "C" fn barnsling_direction(ax: i32, ay: i32, bx: i32, by: i32) -> u64
+pub fn barnsling_direction(ax: i32, ay: i32, bx: i32, by: i32) -> u64
     ensures { result ≡ heading_packed (direction_of (point_of ax ay) (point_of bx by)) (point_of ax ay) }
 {
     direction(point(ax, ay), point(bx, by))
 }
 
 // The distance from a to b: below 2^32, or a refusal as above. Refuses POINT.
-#[unsafe(no_mangle)]
-pub extern "C" fn barnsling_distance(diagonal: u8, ax: i32, ay: i32, bx: i32, by: i32) -> u64
+pub fn barnsling_distance(diagonal: u8, ax: i32, ay: i32, bx: i32, by: i32) -> u64
     ensures { result ≡ measure_packed (distance_of (flag_of diagonal) (point_of ax ay) (point_of bx by)) (point_of ax ay) }
 {
     distance(flag(diagonal), point(ax, ay), point(bx, by))
 }
 
 // The scaled distance from a to b: below 2^32, or a refusal as above. Refuses SETTING, POINT.
-#[unsafe(no_mangle)]
-pub extern "C" fn barnsling_scaled_distance(
+pub fn barnsling_scaled_distance(
     factor: f32,
     diagonal: u8,
     ax: i32,
@@ -156,8 +150,7 @@ fn roomy(
 }
 
 // A new grid in lent tables: 0. Refuses SIZE, then STATE where a table is too short.
-#[unsafe(no_mangle)]
-pub extern "C" fn barnsling_new(
+pub fn barnsling_new(
     blocked: &mut [u8],
     neighbours: &mut [u8],
     forced: &mut [u8],
@@ -180,8 +173,7 @@ pub extern "C" fn barnsling_new(
 }
 
 // Blocks or frees the cell (x, y): the dirty mark afterwards, 0 or 1. Refuses STATE, then POINT.
-#[unsafe(no_mangle)]
-pub extern "C" fn barnsling_set(
+pub fn barnsling_set(
     blocked: &mut [u8],
     neighbours: &mut [u8],
     forced: &mut [u8],
@@ -226,8 +218,7 @@ pub extern "C" fn barnsling_set(
 }
 
 // The components anew from the blocked cells alone: 0, the dirty mark afterwards. Refuses STATE.
-#[unsafe(no_mangle)]
-pub extern "C" fn barnsling_rebuild(
+pub fn barnsling_rebuild(
     blocked: &[u8],
     parent: &mut [u16],
     rank: &mut [u8],
@@ -245,8 +236,7 @@ pub extern "C" fn barnsling_rebuild(
 }
 
 // `barnsling_rebuild` where the grid is dirty: 0, the dirty mark afterwards. Refuses STATE.
-#[unsafe(no_mangle)]
-pub extern "C" fn barnsling_update(
+pub fn barnsling_update(
     blocked: &[u8],
     parent: &mut [u16],
     rank: &mut [u8],
@@ -265,15 +255,7 @@ pub extern "C" fn barnsling_update(
 }
 
 // The component of the cell (x, y), as the Rust numbers it. Refuses STATE, then POINT.
-#[unsafe(no_mangle)]
-pub extern "C" fn barnsling_component(
-    parent: &[u16],
-    rank: &[u8],
-    w: usize,
-    h: usize,
-    x: i32,
-    y: i32,
-) -> u64
+pub fn barnsling_component(parent: &[u16], rank: &[u8], w: usize, h: usize, x: i32, y: i32) -> u64
     ensures { result ≡ component_lent w h parent.now rank.now (point_of x y) }
 {
     if !linked(parent, rank, w, h) {
@@ -314,8 +296,7 @@ fn mask_at(table: &[u8], parent: &[u16], rank: &[u8], w: usize, h: usize, p: Poi
 }
 
 // Whether the cell (x, y) is blocked: 1 or 0. Refuses STATE, then POINT.
-#[unsafe(no_mangle)]
-pub extern "C" fn barnsling_blocked_at(
+pub fn barnsling_blocked_at(
     blocked: &[u8],
     parent: &[u16],
     rank: &[u8],
@@ -335,8 +316,7 @@ pub extern "C" fn barnsling_blocked_at(
 }
 
 // Which neighbours of the cell (x, y) are inside and free, a bit for each direction: below 256. Refuses STATE, then POINT.
-#[unsafe(no_mangle)]
-pub extern "C" fn barnsling_neighbours_at(
+pub fn barnsling_neighbours_at(
     neighbours: &[u8],
     parent: &[u16],
     rank: &[u8],
@@ -351,8 +331,7 @@ pub extern "C" fn barnsling_neighbours_at(
 }
 
 // The forced directions of the cell (x, y): below 256. Refuses STATE, then POINT.
-#[unsafe(no_mangle)]
-pub extern "C" fn barnsling_forced_at(
+pub fn barnsling_forced_at(
     forced: &[u8],
     parent: &[u16],
     rank: &[u8],
@@ -368,8 +347,7 @@ pub extern "C" fn barnsling_forced_at(
 
 // The directions that a search follows from the cell (x, y), having come to it in a direction, read modulo 8: below 256.
 // Refuses STATE, then POINT.
-#[unsafe(no_mangle)]
-pub extern "C" fn barnsling_pruned_at(
+pub fn barnsling_pruned_at(
     neighbours: &[u8],
     parent: &[u16],
     rank: &[u8],
@@ -408,8 +386,7 @@ fn asked(parent: &[u16], rank: &[u8], w: usize, h: usize, start: Point, goal: Po
 }
 
 // Whether two points share a component, 0 or 1: no where one is outside. Refuses STATE, then POINT.
-#[unsafe(no_mangle)]
-pub extern "C" fn barnsling_reachable(
+pub fn barnsling_reachable(
     parent: &[u16],
     rank: &[u8],
     w: usize,
@@ -433,8 +410,7 @@ pub extern "C" fn barnsling_reachable(
 }
 
 // Whether they do not: yes where one is outside. Refuses STATE, then POINT.
-#[unsafe(no_mangle)]
-pub extern "C" fn barnsling_unreachable(
+pub fn barnsling_unreachable(
     parent: &[u16],
     rank: &[u8],
     w: usize,
@@ -458,8 +434,7 @@ pub extern "C" fn barnsling_unreachable(
 }
 
 // Whether some inside neighbour of the goal shares the start's component: yes where one is outside. Refuses STATE, then POINT.
-#[unsafe(no_mangle)]
-pub extern "C" fn barnsling_neighbours_reachable(
+pub fn barnsling_neighbours_reachable(
     parent: &[u16],
     rank: &[u8],
     w: usize,
@@ -484,8 +459,7 @@ pub extern "C" fn barnsling_neighbours_reachable(
 }
 
 // Whether none does: yes, too, where one is outside. Refuses STATE, then POINT.
-#[unsafe(no_mangle)]
-pub extern "C" fn barnsling_neighbours_unreachable(
+pub fn barnsling_neighbours_unreachable(
     parent: &[u16],
     rank: &[u8],
     w: usize,
@@ -529,7 +503,7 @@ fn single(
     goal: Point,
     approximate: bool,
 ) -> Answer
-    ensures { (result ≡ answer_of (length out.old) (single_lent (ground w h blocked.now neighbours.now forced.now) links.now ranks.now s (lengths_of number.old place.old parent.old cost.old keys.old idx.old) approximate start goal)) × (out.new ≡ out_after out.old (single_plan w h s approximate start goal) (single_lent (ground w h blocked.now neighbours.now forced.now) links.now ranks.now s (lengths_of number.old place.old parent.old cost.old keys.old idx.old) approximate start goal)) }
+    ensures { (result ≡ answer_of (length out.old) (single_lent (lent_ground w h blocked.now neighbours.now forced.now) links.now ranks.now s (lengths_of number.old place.old parent.old cost.old keys.old idx.old) approximate start goal)) × (out.new ≡ out_after out.old (single_plan w h s approximate start goal) (single_lent (lent_ground w h blocked.now neighbours.now forced.now) links.now ranks.now s (lengths_of number.old place.old parent.old cost.old keys.old idx.old) approximate start goal)) }
 {
     if !held(blocked, neighbours, forced, links, ranks, w, h) {
         return finder::refused(Refusal::State);
@@ -575,7 +549,7 @@ fn several(
     s: Settings,
     start: Point,
 ) -> Answer
-    ensures { (result ≡ answer_of (length out.old) (several_lent (ground w h blocked.now neighbours.now forced.now) links.now ranks.now s (lengths_of number.old place.old parent.old cost.old keys.old idx.old) start goals.now)) × (out.new ≡ out_after out.old (several_plan w h s start goals.now) (several_lent (ground w h blocked.now neighbours.now forced.now) links.now ranks.now s (lengths_of number.old place.old parent.old cost.old keys.old idx.old) start goals.now)) }
+    ensures { (result ≡ answer_of (length out.old) (several_lent (lent_ground w h blocked.now neighbours.now forced.now) links.now ranks.now s (lengths_of number.old place.old parent.old cost.old keys.old idx.old) start goals.now)) × (out.new ≡ out_after out.old (several_plan w h s start goals.now) (several_lent (lent_ground w h blocked.now neighbours.now forced.now) links.now ranks.now s (lengths_of number.old place.old parent.old cost.old keys.old idx.old) start goals.now)) }
 {
     if !held(blocked, neighbours, forced, links, ranks, w, h) {
         return finder::refused(Refusal::State);
@@ -588,8 +562,7 @@ fn several(
 
 // The waypoints from a start to a goal, or approximately to it, written as pairs; the rest of the output is kept, and number to idx are working room.
 // Refuses STATE, SETTING, POINT, NO_ROUTE, then EXHAUSTED, DEPTH, FRINGE, POPS or SAME as met, ROOM last; a refusal writes no output.
-#[unsafe(no_mangle)]
-pub extern "C" fn barnsling_single_goal(
+pub fn barnsling_single_goal(
     blocked: &[u8],
     neighbours: &[u8],
     forced: &[u8],
@@ -616,7 +589,7 @@ pub extern "C" fn barnsling_single_goal(
     gy: i32,
     approximate: u8,
 ) -> Route
-    ensures { (result ≡ route_of (answer_of (length out.old) (single_lent (ground w h blocked.now neighbours.now forced.now) links.now ranks.now (settings_of factor (flag_of diagonal) (flag_of improved) depth pops fringe) (lengths_of number.old place.old parent.old cost.old keys.old idx.old) (flag_of approximate) (point_of sx sy) (point_of gx gy)))) × (out.new ≡ out_after out.old (single_plan w h (settings_of factor (flag_of diagonal) (flag_of improved) depth pops fringe) (flag_of approximate) (point_of sx sy) (point_of gx gy)) (single_lent (ground w h blocked.now neighbours.now forced.now) links.now ranks.now (settings_of factor (flag_of diagonal) (flag_of improved) depth pops fringe) (lengths_of number.old place.old parent.old cost.old keys.old idx.old) (flag_of approximate) (point_of sx sy) (point_of gx gy))) }
+    ensures { (result ≡ route_of (answer_of (length out.old) (single_lent (lent_ground w h blocked.now neighbours.now forced.now) links.now ranks.now (settings_of factor (flag_of diagonal) (flag_of improved) depth pops fringe) (lengths_of number.old place.old parent.old cost.old keys.old idx.old) (flag_of approximate) (point_of sx sy) (point_of gx gy)))) × (out.new ≡ out_after out.old (single_plan w h (settings_of factor (flag_of diagonal) (flag_of improved) depth pops fringe) (flag_of approximate) (point_of sx sy) (point_of gx gy)) (single_lent (lent_ground w h blocked.now neighbours.now forced.now) links.now ranks.now (settings_of factor (flag_of diagonal) (flag_of improved) depth pops fringe) (lengths_of number.old place.old parent.old cost.old keys.old idx.old) (flag_of approximate) (point_of sx sy) (point_of gx gy))) }
 {
     let s = settings(factor, flag(diagonal), flag(improved), depth, pops, fringe);
     let start = point(sx, sy);
@@ -631,8 +604,7 @@ pub extern "C" fn barnsling_single_goal(
 
 // The waypoints from a start to one of several goals, given as pairs; the rest as above.
 // Refuses STATE, SETTING, GOALS, POINT, then as the single_goal search does, but never NO_ROUTE.
-#[unsafe(no_mangle)]
-pub extern "C" fn barnsling_multiple_goals(
+pub fn barnsling_multiple_goals(
     blocked: &[u8],
     neighbours: &[u8],
     forced: &[u8],
@@ -657,7 +629,7 @@ pub extern "C" fn barnsling_multiple_goals(
     sx: i32,
     sy: i32,
 ) -> Route
-    ensures { (result ≡ route_of (answer_of (length out.old) (several_lent (ground w h blocked.now neighbours.now forced.now) links.now ranks.now (settings_of factor (flag_of diagonal) (flag_of improved) depth pops fringe) (lengths_of number.old place.old parent.old cost.old keys.old idx.old) (point_of sx sy) goals.now))) × (out.new ≡ out_after out.old (several_plan w h (settings_of factor (flag_of diagonal) (flag_of improved) depth pops fringe) (point_of sx sy) goals.now) (several_lent (ground w h blocked.now neighbours.now forced.now) links.now ranks.now (settings_of factor (flag_of diagonal) (flag_of improved) depth pops fringe) (lengths_of number.old place.old parent.old cost.old keys.old idx.old) (point_of sx sy) goals.now)) }
+    ensures { (result ≡ route_of (answer_of (length out.old) (several_lent (lent_ground w h blocked.now neighbours.now forced.now) links.now ranks.now (settings_of factor (flag_of diagonal) (flag_of improved) depth pops fringe) (lengths_of number.old place.old parent.old cost.old keys.old idx.old) (point_of sx sy) goals.now))) × (out.new ≡ out_after out.old (several_plan w h (settings_of factor (flag_of diagonal) (flag_of improved) depth pops fringe) (point_of sx sy) goals.now) (several_lent (lent_ground w h blocked.now neighbours.now forced.now) links.now ranks.now (settings_of factor (flag_of diagonal) (flag_of improved) depth pops fringe) (lengths_of number.old place.old parent.old cost.old keys.old idx.old) (point_of sx sy) goals.now)) }
 {
     let s = settings(factor, flag(diagonal), flag(improved), depth, pops, fringe);
     let start = point(sx, sy);

@@ -10,8 +10,7 @@ use replies::{Check, Reply, checked, written};
 
 // The path that steps by sign from waypoint to waypoint, written as pairs: how many points; the rest of the output is kept.
 // Refuses LIST, POINT, ROOM; then nothing is written.
-#[unsafe(no_mangle)]
-pub extern "C" fn barnsling_waypoints_to_path(list: &[i32], out: &mut [i32]) -> Reply
+pub fn barnsling_waypoints_to_path(list: &[i32], out: &mut [i32]) -> Reply
     ensures { (result ≡ written_reply (path_answer list.now (length out.old))) × (out.new ≡ path_kept (path_answer list.now (length out.old)) list.now out.old) }
 {
     written(paths::waypoints_to_path(list, out))
@@ -19,8 +18,7 @@ pub extern "C" fn barnsling_waypoints_to_path(list: &[i32], out: &mut [i32]) -> 
 
 // Whether every cell of the expanded walk after the first point is inside and free, 1 or 0; and the first bent leg, from 1, or 0, clear or not.
 // Refuses STATE, LIST, POINT.
-#[unsafe(no_mangle)]
-pub extern "C" fn barnsling_check_route(
+pub fn barnsling_check_route(
     blocked: &[u8],
     parent: &[u16],
     rank: &[u8],

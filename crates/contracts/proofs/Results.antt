@@ -12,8 +12,8 @@ use Rattle.contracts.proofs.Laws.{equal, both, by_first}
 values : Values
 values =
     record {
-      off_x_lem = (λ κ a. tt, λ κ a r r' e e' p q. equal p.0 q.0);
-      off_y_lem = (λ κ a. tt, λ κ a r r' e e' p q. equal p.0 q.0);
+      off_x = (λ κ a. tt, λ κ a r r' e e' p q. equal p.0 q.0);
+      off_y = (λ κ a. tt, λ κ a r r' e e' p q. equal p.0 q.0);
       right_of = (λ κ a. tt, λ κ a r r' e e' p q. equal p.0 q.0);
       left_of = (λ κ a. tt, λ κ a r r' e e' p q. equal p.0 q.0);
       back_of = (λ κ a. tt, λ κ a r r' e e' p q. equal p.0 q.0);
@@ -68,10 +68,10 @@ searches =
       multiple_goals = (λ κ a. tt, λ κ a r r' e e'. both);
       waypoints_to_path = (λ κ a. tt, λ κ a r r' e e'. by_first (λ w. path_kept w a.0.now a.1.0.now));
       searched = (λ κ a. tt, λ κ a r r' e e'. both);
-      route_text_lem = (λ κ a. tt, λ κ a r r' e e'. both);
+      route_text = (λ κ a. tt, λ κ a r r' e e'. both);
       route_inner = λ κ a r r' e e'. both;
       refused = (λ κ a. tt, λ κ a r r' e e'. equal);
-      single_inner_lem = λ κ a r r' e e'. both;
+      single_inner = λ κ a r r' e e'. both;
       multiple_inner = λ κ a r r' e e'. both;
       search_loop = λ κ a r r' e e'. equal;
       expand_node = λ κ a r r' e e'. equal;
@@ -104,7 +104,7 @@ hosts =
       multiple_goals = (λ κ a. tt, λ κ a r r' e e'. both);
       waypoints_to_path = (λ κ a. tt, λ κ a r r' e e'. both);
       check_route = (λ κ a. tt, λ κ a r r' e e'. equal);
-      route_text_lem = (λ κ a. tt, λ κ a r r' e e'. both);
+      route_text = (λ κ a. tt, λ κ a r r' e e'. both);
     }
 
 -- LAW: THE RESULTS

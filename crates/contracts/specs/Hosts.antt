@@ -24,7 +24,7 @@ use Rattle.boundary.proofs.barnsling_single_goal.Reads as single_goal
 use Rattle.boundary.proofs.barnsling_multiple_goals.Reads as multiple_goals
 use Rattle.boundary.proofs.walks.barnsling_waypoints_to_path.Reads as waypoints_to_path
 use Rattle.boundary.proofs.walks.barnsling_check_route.Reads as check_route
-use Rattle.boundary.proofs.texts.barnsling_route_text.Reads as route_text_lem
+use Rattle.boundary.proofs.texts.barnsling_route_text.Reads as route_text
 
 pub record Hosts : Type 0 where
   pub version : Free version.Asked × One version.Post
@@ -52,4 +52,4 @@ pub record Hosts : Type 0 where
   pub multiple_goals : Free multiple_goals.Asked × OneWith multiple_goals.Post (λ κ e. e.1.1.1.1.1.1.1.1.1.1.1.1.0.now)
   pub waypoints_to_path : Free waypoints_to_path.Asked × OneWith waypoints_to_path.Post (λ κ e. e.1.0.now)
   pub check_route : Free check_route.Asked × One check_route.Post
-  pub route_text_lem : Free route_text_lem.Asked × OneWith route_text_lem.Post (λ κ e. e.1.0.now)
+  pub route_text : Free route_text.Asked × OneWith route_text.Post (λ κ e. e.1.0.now)

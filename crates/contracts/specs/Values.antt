@@ -1,7 +1,7 @@
 -- The calls on directions, points, distances, settings and masks: each promises an answer, and allows one. Assumes nothing: these are statements.
 use Rattle.contracts.specs.Allowed.{Free, One}
-use Rattle.directions.proofs.off_x.Reads as off_x_lem
-use Rattle.directions.proofs.off_y.Reads as off_y_lem
+use Rattle.directions.proofs.off_x.Reads as off_x
+use Rattle.directions.proofs.off_y.Reads as off_y
 use Rattle.directions.proofs.right_of.Reads as right_of
 use Rattle.directions.proofs.left_of.Reads as left_of
 use Rattle.directions.proofs.back_of.Reads as back_of
@@ -26,8 +26,8 @@ use Rattle.masks.proofs.forced_mask.Reads as forced_mask
 use Rattle.masks.proofs.pruned_mask.Reads as pruned_mask
 
 pub record Values : Type 0 where
-  pub off_x_lem : Free off_x_lem.Asked × One off_x_lem.Post
-  pub off_y_lem : Free off_y_lem.Asked × One off_y_lem.Post
+  pub off_x : Free off_x.Asked × One off_x.Post
+  pub off_y : Free off_y.Asked × One off_y.Post
   pub right_of : Free right_of.Asked × One right_of.Post
   pub left_of : Free left_of.Asked × One left_of.Post
   pub back_of : Free back_of.Asked × One back_of.Post

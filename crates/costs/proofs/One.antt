@@ -1,5 +1,5 @@
 -- A whole number times a factor that equals 1 is that number, cut or not. Assumes nothing.
-use Rattle.std.proofs.Common.{◌≡◌, ℕ, ◌*◌, ◌^◌, ◌≤◌, true, false, T, eqb, pos, sym, ap, ◌∙◌, true≢false, mul_assoc, mul-pos, mul-one, arith, lit<, le→leb, eqb→eq}
+use Rattle.std.proofs.Common.{◌≡◌, ℕ, ◌*◌, ◌^◌, ◌≤◌, true, false, T, eqb, sym, ap, ◌∙◌, true≢false, mul_assoc, mul-pos, mul-one, arith, lit<, le→leb, eqb→eq}
 use lib.Ieee.{Float, nan, inf, fin, binary32, up, down, round, mul, eq, of_int, to_unsigned, in_float}
 use lib.Ieee.Fits.{down_pos}
 use lib.Ieee.Exact.{HasValue}

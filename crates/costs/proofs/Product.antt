@@ -1,8 +1,8 @@
 -- A whole number times a factor from 0 to 16: the rounded product is finite, above -1, and at most 16 times the number. Assumes nothing.
-use Rattle.std.proofs.Common.{◌≡◌, ℕ, zero, suc, ◌+◌, ◌-◌, ◌*◌, ◌/◌, ◌^◌, ◌<◌, ◌≤◌, min, Bool, true, false, cond, not, ◌&&◌, ◌||◌, T, eqb, ltb, ℤ, pos, negsuc, neg_ℤ, sym, refl, ap, ◌∙◌, subst, ⊎_elim, true≢false, zero-le, le_trans, le_of_eq, mul-le-mul_right, mul_assoc, suc-mul, mul_comm, div-lt_iff_lt-mul, mul-le-mul_left, mul-lt-mul_of_pos_right, mul-pos, one-mul, mul-zero, zero-mul, mul-one, div-le_self, mul_right_comm, le_of_mul-le-mul_right, mul_left_comm, arith, lit<, lit≤, eqb→eq, ltb→lt, lt→ltb}
-use native.Mathlib.Nat.{div-le_of_le-mul, eq_of_mul-eq-mul_right, mul-mul-mul_comm}
-use lib.Ieee.{Float, nan, inf, fin, Format, binary32, up, down, round, mul, le, lt, of_int, to_unsigned, to_signed}
-use lib.Ieee.Fits.{up_pos, down_pos}
+use Rattle.std.proofs.Common.{◌≡◌, ℕ, suc, ◌+◌, ◌*◌, ◌/◌, ◌^◌, ◌<◌, ◌≤◌, min, true, false, ◌&&◌, ◌||◌, T, eqb, ltb, pos, neg_ℤ, sym, refl, ap, ◌∙◌, subst, ⊎_elim, true≢false, zero-le, le_trans, le_of_eq, suc-mul, div-lt_iff_lt-mul, mul-le-mul_left, mul-lt-mul_of_pos_right, mul-pos, mul-zero, zero-mul, mul-one, div-le_self, mul_right_comm, le_of_mul-le-mul_right, arith, lit<, lit≤, eqb→eq, ltb→lt, lt→ltb}
+use native.Mathlib.Nat.{eq_of_mul-eq-mul_right, mul-mul-mul_comm}
+use lib.Ieee.{Float, nan, inf, fin, binary32, up, down, round, mul, le, lt, of_int, to_unsigned, to_signed}
+use lib.Ieee.Fits.{down_pos}
 use lib.Ieee.Exact.{HasValue, round_exact}
 use lib.Ieee.Back.{round_whole}
 use lib.Ieee.Order.{round_mono}

@@ -1,5 +1,5 @@
 -- The settings of a search: a new grid's, and which are in range. Assumes nothing: these are definitions.
-use Rattle.std.specs.Prelude.{ℕ, Bool, true, false, ◌&&◌, nat_le}
+use Rattle.std.specs.Prelude.{ℕ, Bool, true, ◌&&◌, nat_le}
 use Rattle.costs.specs.declared.Settings.{Settings}
 use Rattle.costs.specs.Scale.{in_bounds, one}
 

@@ -1,5 +1,5 @@
 -- The scaled distance, in the logic's account of IEEE 754. Assumes nothing: these are definitions.
-use Rattle.std.specs.Prelude.{ℕ, Bool, true, false, ◌&&◌, pos, Float}
+use Rattle.std.specs.Prelude.{ℕ, Bool, false, ◌&&◌, pos, Float}
 use Rattle.std.specs.Float.{fin, binary32}
 use Rattle.std.specs.Float.Ieee.{le, mul, of_int, to_unsigned}
 use Rattle.points.specs.declared.Point.{Point}

@@ -1,5 +1,5 @@
 -- The pinned offsets of the eight directions. Assumes nothing: these are definitions.
-use Rattle.std.specs.Prelude.{List, [], ◌∷◌, ℕ, get_or}
+use Rattle.std.specs.Prelude.{[], ◌∷◌, ℕ, get_or}
 
 -- the offsets (pinned) of the directions 0 to 7, each one more than it is: 0 is (0,-1), then clockwise on a printed map
 unfoldable pub off_x : ℕ → ℕ

@@ -11,7 +11,7 @@ use Rattle.checks.specs.declared.Checked.TheVariants as Checked
 use Rattle.paths.specs.declared.Written.TheVariants as Written
 use Rattle.tables.specs.Tables.{Tables}
 use Rattle.finder.specs.declared.Outcome.TheVariants as Outcome
-use Rattle.finder.specs.Find.{Ground, ground}
+use Rattle.finder.specs.Find.{Ground, lent_ground}
 use Rattle.packing.specs.Packing.{flag_of, point_of, refused_as, mark_of, settings_of}
 use Rattle.replies.specs.Replies.{route_of, told_reply, written_reply, check_reply}
 use Rattle.boundary.specs.Lent as lent
@@ -41,7 +41,7 @@ abbrev pub lawful : Tables
 lawful = lent.tables false zeros zeros zeros own zeros
 
 abbrev pub floor : Ground
-floor = ground 2 1 zeros zeros zeros
+floor = lent_ground 2 1 zeros zeros zeros
 
 -- a refusal's number as an answer: 256 more for the first of two points, 512 more for the second
 abbrev pub numbered : ℕ → ℕ

@@ -17,7 +17,6 @@ use Rattle.grid.specs.declared.Outcome.TheVariants as Outcome
 use Rattle.grid.specs.declared.Component.TheVariants as Component
 use Rattle.grid.specs.declared.Mask.TheVariants as Mask
 use Rattle.grid.specs.declared.Verdict.{Verdict}
-use Rattle.grid.specs.declared.Verdict.TheVariants as Verdict
 use Rattle.grid.specs.Grids.{set_outcome}
 use Rattle.grid.specs.Questions.{component_at, neighbour_mask_at, forced_mask_at, pruned_mask_at, reachable_from, unreachable_from, neighbours_reachable_from, neighbours_unreachable_from}
 use Rattle.paths.specs.Walks.{path_answer}

@@ -23,7 +23,6 @@ use Rattle.costs.specs.Scale.{in_bounds}
 use Rattle.goals.specs.declared.Goal.{Goal}
 use Rattle.goals.specs.declared.Goal.TheVariants.{Several}
 use Rattle.goals.specs.declared.Listed.{Listed}
-use Rattle.goals.specs.declared.Listed.TheVariants as Listed
 use Rattle.goals.specs.declared.Misplaced.TheVariants.{At, Nowhere}
 use Rattle.goals.specs.declared.Plan.{Plan}
 use Rattle.goals.specs.Goals.{most_goals, pick_listed, count_of, bad_of, Placed}
@@ -37,7 +36,7 @@ use Rattle.cells.specs.Cells.{Sides}
 use Rattle.plans.specs.declared.Lengths.{Lengths}
 use Rattle.plans.specs.Plans.{ready_of, barred_of, plan_of, kind_of}
 use Rattle.finder.specs.declared.Answer.{Answer}
-use Rattle.finder.specs.Find.{Ground, Covered, Roomy, ground, lengths_of, early, answer_of, out_after, started_of, started_in, pair_of, single_plan, single_of, several_plan, several_of}
+use Rattle.finder.specs.Find.{Ground, Covered, Roomy, lent_ground, lengths_of, early, answer_of, out_after, started_of, started_in, pair_of, single_plan, single_of, several_plan, several_of}
 
 -- a point's cell is a place
 pub cell_of_le : (w h : ℕ) (q : Point) → cell_of w h q ≤ w * h
@@ -181,11 +180,11 @@ module _ (w h : ℕ) (b e f links : List ℕ) (s : Settings) (number place paren
       asked (read_pair goal) p (plan_of w h s k start) b e f number place parent cost keys idx same l covered (roomy s (w * h + 1) number place parent cost keys idx ready)
 
   pub single_answer : (a : Answer) (room : ℕ) (out out' : List ℤ) → barred_of w h links s.diagonal approximate start goal ≡ false → (a ≡ answer_of room (started_of b e f (read_pair goal) p)) × (out' ≡ out_after out p (started_of b e f (read_pair goal) p))
-      → (a ≡ answer_of room (single_of (ground w h b e f) links s (lengths_of number place parent cost keys idx) approximate start goal)) × (out' ≡ out_after out (single_plan w h s approximate start goal) (single_of (ground w h b e f) links s (lengths_of number place parent cost keys idx) approximate start goal))
+      → (a ≡ answer_of room (single_of (lent_ground w h b e f) links s (lengths_of number place parent cost keys idx) approximate start goal)) × (out' ≡ out_after out (single_plan w h s approximate start goal) (single_of (lent_ground w h b e f) links s (lengths_of number place parent cost keys idx) approximate start goal))
   single_answer a room out out' joined r =
-      handed a room out out' (started_of b e f (read_pair goal)) p (single_plan w h s approximate start goal) (single_of (ground w h b e f) links s (lengths_of number place parent cost keys idx) approximate start goal) r
+      handed a room out out' (started_of b e f (read_pair goal)) p (single_plan w h s approximate start goal) (single_of (lent_ground w h b e f) links s (lengths_of number place parent cost keys idx) approximate start goal) r
       (same ∙ ap (λ (x : Goal). plan_of w h s x start) kind)
-      (ap (λ (x : List ℤ). started_of b e f x (single_plan w h s approximate start goal)) (pair_read goal to) ∙ single_open (ground w h b e f) links s (lengths_of number place parent cost keys idx) approximate start goal ready from to joined)
+      (ap (λ (x : List ℤ). started_of b e f x (single_plan w h s approximate start goal)) (pair_read goal to) ∙ single_open (lent_ground w h b e f) links s (lengths_of number place parent cost keys idx) approximate start goal ready from to joined)
 
 -- ---- the multiple-goal search, test by test
 
@@ -238,8 +237,8 @@ module _ (w h : ℕ) (b e f : List ℕ) (s : Settings) (number place parent cost
       asked goals p (plan_of w h s (Several n) start) b e f number place parent cost keys idx same (several_legal w h s (lengths_of number place parent cost keys idx) start sides ready from goals n c.1.0 c.1.1 to) covered (roomy s (w * h + 1) number place parent cost keys idx ready)
 
   pub several_answer : (a : Answer) (room : ℕ) (out out' : List ℤ) → (a ≡ answer_of room (started_of b e f goals p)) × (out' ≡ out_after out p (started_of b e f goals p))
-      → (a ≡ answer_of room (several_of (ground w h b e f) s (lengths_of number place parent cost keys idx) start goals)) × (out' ≡ out_after out (several_plan w h s start goals) (several_of (ground w h b e f) s (lengths_of number place parent cost keys idx) start goals))
+      → (a ≡ answer_of room (several_of (lent_ground w h b e f) s (lengths_of number place parent cost keys idx) start goals)) × (out' ≡ out_after out (several_plan w h s start goals) (several_of (lent_ground w h b e f) s (lengths_of number place parent cost keys idx) start goals))
   several_answer a room out out' r =
-      handed a room out out' (started_of b e f goals) p (several_plan w h s start goals) (several_of (ground w h b e f) s (lengths_of number place parent cost keys idx) start goals) r
+      handed a room out out' (started_of b e f goals) p (several_plan w h s start goals) (several_of (lent_ground w h b e f) s (lengths_of number place parent cost keys idx) start goals) r
       (same ∙ ap (λ (x : ℕ). plan_of w h s (Several x) start) (count_is (length goals) n count).0)
-      (several_open (ground w h b e f) s (lengths_of number place parent cost keys idx) start goals ready n count from to)
+      (several_open (lent_ground w h b e f) s (lengths_of number place parent cost keys idx) start goals ready n count from to)

@@ -8,7 +8,6 @@ use Rattle.points.specs.declared.Refusal.TheVariants as refusal
 use Rattle.costs.specs.declared.Settings.{Settings}
 use Rattle.goals.specs.declared.Goal.TheVariants.{Several}
 use Rattle.goals.specs.declared.Listed.{Listed}
-use Rattle.goals.specs.declared.Listed.TheVariants as Listed
 use Rattle.goals.specs.declared.Misplaced.{Misplaced}
 use Rattle.goals.specs.declared.Misplaced.TheVariants.{At, Nowhere}
 use Rattle.goals.specs.declared.Plan.{Plan}
@@ -61,8 +60,8 @@ pub record Ground : Type 0 where
   pub neighbours : List ℕ
   pub forced : List ℕ
 
-abbrev pub ground : ℕ → ℕ → List ℕ → List ℕ → List ℕ → Ground
-ground w h blocked neighbours forced = record { w = w; h = h; blocked = blocked; neighbours = neighbours; forced = forced }
+abbrev pub lent_ground : ℕ → ℕ → List ℕ → List ℕ → List ℕ → Ground
+lent_ground w h blocked neighbours forced = record { w = w; h = h; blocked = blocked; neighbours = neighbours; forced = forced }
 
 -- the first n places of each table are looked at, with a list of goals
 abbrev pub tables_of : ℕ → List ℕ → List ℕ → List ℕ → List ℤ → Tables

@@ -5,7 +5,7 @@ ghost use Rattle.std.specs.Prelude.{◌≡◌, ◌+◌, ◌*◌, length};
 ghost use Rattle.components.specs.Components.{Forest};
 ghost use Rattle.cells.specs.Cells.{Sides};
 ghost use Rattle.search.specs.Loop.{Legal};
-ghost use Rattle.finder.specs.Find.{Covered, Roomy, ground, lengths_of, early, answer_of, out_after, started_of, single_plan, single_of, several_plan, several_of};
+ghost use Rattle.finder.specs.Find.{Covered, Roomy, lent_ground, lengths_of, early, answer_of, out_after, started_of, single_plan, single_of, several_plan, several_of};
 
 use costs::Settings;
 use goals::{Goal, Listed, Misplaced, Plan};
@@ -122,7 +122,7 @@ pub fn single_goal(
     approximate: bool,
 ) -> Answer
     requires { Sides w h × (Covered (w * h) blocked.now neighbours.now forced.now × Forest 200 (w * h) links.now ranks.now) }
-    ensures { (result ≡ answer_of (length out.old) (single_of (ground w h blocked.now neighbours.now forced.now) links.now s (lengths_of number.old place.old parent.old cost.old keys.old idx.old) approximate start goal)) × (out.new ≡ out_after out.old (single_plan w h s approximate start goal) (single_of (ground w h blocked.now neighbours.now forced.now) links.now s (lengths_of number.old place.old parent.old cost.old keys.old idx.old) approximate start goal)) }
+    ensures { (result ≡ answer_of (length out.old) (single_of (lent_ground w h blocked.now neighbours.now forced.now) links.now s (lengths_of number.old place.old parent.old cost.old keys.old idx.old) approximate start goal)) × (out.new ≡ out_after out.old (single_plan w h s approximate start goal) (single_of (lent_ground w h blocked.now neighbours.now forced.now) links.now s (lengths_of number.old place.old parent.old cost.old keys.old idx.old) approximate start goal)) }
 {
     let l = Lengths {
         number: number.len(),
@@ -171,7 +171,7 @@ pub fn multiple_goals(
     start: Point,
 ) -> Answer
     requires { Sides w h × Covered (w * h) blocked.now neighbours.now forced.now }
-    ensures { (result ≡ answer_of (length out.old) (several_of (ground w h blocked.now neighbours.now forced.now) s (lengths_of number.old place.old parent.old cost.old keys.old idx.old) start goals.now)) × (out.new ≡ out_after out.old (several_plan w h s start goals.now) (several_of (ground w h blocked.now neighbours.now forced.now) s (lengths_of number.old place.old parent.old cost.old keys.old idx.old) start goals.now)) }
+    ensures { (result ≡ answer_of (length out.old) (several_of (lent_ground w h blocked.now neighbours.now forced.now) s (lengths_of number.old place.old parent.old cost.old keys.old idx.old) start goals.now)) × (out.new ≡ out_after out.old (several_plan w h s start goals.now) (several_of (lent_ground w h blocked.now neighbours.now forced.now) s (lengths_of number.old place.old parent.old cost.old keys.old idx.old) start goals.now)) }
 {
     let l = Lengths {
         number: number.len(),

@@ -11,7 +11,7 @@ use lib.IntN.{ℤ}
 use lib.ListN.{length}
 use Rattle.points.specs.Plane.{legal}
 use Rattle.points.specs.declared.Point.{Point}
-use Rattle.costs.specs.Cost.{dist_of, farthest}
+use Rattle.costs.specs.Cost.{dist_of}
 use Rattle.goals.specs.declared.Misplaced.TheVariants.{At, Nowhere}
 use Rattle.goals.specs.Goals.{point_at, same_point, among_to, pick_misplaced, bad_of, least_to, Legals}
 

@@ -15,11 +15,8 @@ use Rattle.grid.specs.declared.Grid.{Grid}
 use Rattle.grid.specs.declared.Outcome.TheVariants.{Done, Refused}
 use Rattle.grid.specs.declared.Change.{Change}
 use Rattle.grid.specs.declared.Component.{Component}
-use Rattle.grid.specs.declared.Component.TheVariants as Component
 use Rattle.grid.specs.declared.Mask.{Mask}
-use Rattle.grid.specs.declared.Mask.TheVariants as Mask
 use Rattle.grid.specs.declared.Verdict.{Verdict}
-use Rattle.grid.specs.declared.Verdict.TheVariants as Verdict
 use Rattle.grid.specs.Grids.{tables_of, grid_of, cell_in, stated_of, located_of, asked_of, edit_grid, set_outcome, rebuild_grid, rebuild_outcome, update_grid, update_outcome, new_grid, new_outcome}
 use Rattle.grid.specs.Questions.{verdict_of, component_at, neighbour_mask_at, forced_mask_at, pruned_mask_at, reachable_from, unreachable_from, neighbours_reachable_from, neighbours_unreachable_from}
 

@@ -8,11 +8,8 @@ use Rattle.grid.specs.declared.Grid.{Grid}
 use Rattle.grid.specs.declared.Outcome.{Outcome}
 use Rattle.grid.specs.declared.Outcome.TheVariants.{Done, Refused}
 use Rattle.grid.specs.declared.Component.{Component}
-use Rattle.grid.specs.declared.Component.TheVariants as Component
 use Rattle.grid.specs.declared.Mask.{Mask}
-use Rattle.grid.specs.declared.Mask.TheVariants as Mask
 use Rattle.grid.specs.declared.Verdict.{Verdict}
-use Rattle.grid.specs.declared.Verdict.TheVariants as Verdict
 use Rattle.grid.specs.Grids.{cell_in, located_of, asked_of}
 
 -- the answer where the tests pass, and their refusal where they do not

@@ -1,7 +1,7 @@
 -- The tables agree: a step in a direction heads that way, a diagonal's offset is that of its two cardinals, and the opposite undoes a step. Assumes nothing.
 use mathlib.Core.Path.{◌≡◌, refl}
 use Prim.Native.Nat.{ℕ, ◌<◌, ◌%◌, ◌+◌}
-use lib.IntN.{ℤ, pos, ◌+ℤ◌}
+use lib.IntN.{pos, ◌+ℤ◌}
 use Rattle.points.specs.declared.Parts.{Parts}
 use Rattle.points.specs.declared.Parts.TheVariants.{Pair, Whole}
 use Rattle.points.specs.Compass.{dx_of, dy_of, sign_of, split_at}

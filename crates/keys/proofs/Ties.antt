@@ -1,10 +1,10 @@
 -- Keys tell estimates and costs: a key is one number written with two digits, the estimate's before the guess's. Assumes nothing.
-use mathlib.Core.Path.{◌≡◌, ap}
+use mathlib.Core.Path.{◌≡◌}
 use mathlib.Core.Logic.{◌⊎◌, inl, inr}
-use Prim.Native.Nat.{ℕ, ◌+◌, ◌-◌, ◌^◌, ◌<◌, ◌≤◌}
+use Prim.Native.Nat.{ℕ, ◌+◌, ◌<◌, ◌≤◌}
 use native.Mathlib.Omega.{arith}
 use Rattle.keys.specs.Keys.{key_of, estimate_of, cost_of}
-use Rattle.keys.specs.Ties.{Fits, Tells, KeysTell}
+use Rattle.keys.specs.Ties.{Fits, KeysTell}
 use Rattle.sifts.proofs.Turns.{by_order}
 
 module _ (k h l g : ℕ) (a : Fits k h) (b : Fits l g) where

@@ -1,5 +1,5 @@
 -- Which bit patterns are a NaN's: those whose digits below the sign exceed an infinity's. Assumes nothing.
-use mathlib.Core.Path.{◌≡◌, refl, sym, ap, ◌∙◌}
+use mathlib.Core.Path.{◌≡◌, refl, sym}
 use mathlib.Core.Bool.{Bool, true, false, ◌&&◌, not, true≢false}
 use Prim.Native.Nat.{ℕ, ◌<◌, ◌≤◌, ◌%◌, ◌/◌}
 use native.Mathlib.Omega.{arith}

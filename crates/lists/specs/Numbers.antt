@@ -1,5 +1,5 @@
 -- Numbers in a list of bytes, least byte first. Assumes nothing: these are definitions.
-use Rattle.std.specs.Prelude.{Bool, true, false, cond, List, ℕ, ◌+◌, ◌-◌, ◌*◌, ltb, ℤ, pos, negsuc, get_or}
+use Rattle.std.specs.Prelude.{cond, List, ℕ, ◌+◌, ◌-◌, ◌*◌, ltb, ℤ, pos, negsuc, get_or}
 
 -- the byte at a place, 0 past the end
 abbrev pub byte_at : List ℕ → ℕ → ℕ

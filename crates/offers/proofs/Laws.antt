@@ -2,7 +2,7 @@
 use mathlib.Core.Path.{◌≡◌, refl, ap}
 use mathlib.Core.Bool.{true, false}
 use mathlib.Core.List.{List}
-use Prim.Native.Nat.{ℕ, ◌+◌, ◌-◌, ◌*◌, ◌/◌, ◌^◌, ◌<◌, ◌≤◌}
+use Prim.Native.Nat.{ℕ, ◌+◌, ◌*◌, ◌/◌, ◌^◌, ◌<◌, ◌≤◌}
 use native.Mathlib.Nat.{mul-le-mul, lt_of_le_of_lt, div-lt_iff_lt-mul}
 use native.Mathlib.Omega.{arith}
 use borrow.Author.Tests.{eq-eqb, ne_eqb, lt-ltb, le-ltb}
@@ -12,7 +12,7 @@ use Rattle.goals.specs.declared.Plan.{Plan}
 use Rattle.sifts.specs.declared.Entry.{Entry}
 use Rattle.sifts.specs.Sifts.{entry}
 use Rattle.fringe.specs.Fringe.{push}
-use Rattle.nodes.specs.Nodes.{Nodes, Note, nodes, note_of, Sound, Able, filled}
+use Rattle.nodes.specs.Nodes.{Nodes, Note, note_of, Sound, Able, filled}
 use Rattle.nodes.proofs.Laws.{took, filled_le, filled_lt}
 use Rattle.keys.specs.Keys.{key_of}
 use Rattle.offers.specs.declared.Mark.{Mark}

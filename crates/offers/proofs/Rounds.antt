@@ -9,7 +9,6 @@ use Rattle.goals.specs.declared.Plan.{Plan}
 use Rattle.offers.specs.declared.Mark.{Mark}
 use Rattle.points.specs.declared.Refusal.{Refusal}
 use Rattle.offers.specs.declared.Step.{Step}
-use Rattle.offers.specs.declared.Fate.{Fate}
 use Rattle.offers.specs.declared.Fate.TheVariants.{Done, Refused}
 use Rattle.offers.specs.Search.{State, view, Out, ok, no, out_of, each, Fit, Lent}
 use Rattle.offers.proofs.Good.{lent_next}

@@ -2,7 +2,7 @@
 use mathlib.Core.Path.{◌≡◌, refl, ap, sym, ◌∙◌, subst}
 use mathlib.Core.Bool.{true}
 use mathlib.Core.List.{[]}
-use Prim.Native.Nat.{ℕ, zero, suc, ◌+◌, ◌-◌, ◌<◌, ◌≤◌}
+use Prim.Native.Nat.{ℕ, zero, suc, ◌+◌, ◌<◌, ◌≤◌}
 use native.Mathlib.Nat.{le_refl, not-suc-le-zero}
 use native.Mathlib.Omega.{arith}
 use borrow.Author.Tests.{eq-eqb}
@@ -10,7 +10,7 @@ use lib.ListN.{length, get_or, set, length-set, replicate, length-replicate, get
 use Rattle.sifts.specs.Sifts.{entry}
 use Rattle.fringe.specs.Fringe.{push}
 use Rattle.fringe.proofs.Laws.{length_push, each_push, ordered_nil, ordered_push}
-use Rattle.nodes.specs.Nodes.{added, Note, nodes, note, note_of, Sound, filled}
+use Rattle.nodes.specs.Nodes.{added, Note, note, note_of, Sound, filled}
 use Rattle.nodes.specs.Bound.{times, Hist}
 use lib.Seq.{get_or-set_other}
 use Rattle.nodes.proofs.Laws.{filled_set, took, by_eq, by-lt}

@@ -1,5 +1,5 @@
 -- `waypoints_to_path`: the walk by sign to each waypoint. A list of points is a list of numbers, x and y in turn. Assumes nothing: these are definitions.
-use Rattle.std.specs.Prelude.{cond, List, [], ◌∷◌, ◌++◌, ℕ, zero, suc, ◌+◌, ◌*◌, ◌/◌, ◌%◌, leb, eqb, ℤ, pos, ◌+ℤ◌, ◌-ℤ◌, length}
+use Rattle.std.specs.Prelude.{cond, List, [], ◌∷◌, ◌++◌, ℕ, zero, suc, ◌*◌, ◌/◌, ◌%◌, leb, eqb, ℤ, pos, ◌+ℤ◌, ◌-ℤ◌, length}
 use Rattle.std.proofs.lemmas.List.Edits.{sets}
 use Rattle.points.specs.Compass.{sign_of, moved}
 use Rattle.points.specs.declared.Point.{Point}

@@ -2,18 +2,18 @@
 use mathlib.Core.Path.{◌≡◌, refl, sym, ap, ◌∙◌, subst}
 use mathlib.Core.Bool.{Bool, true, false, ◌&&◌, true≢false}
 use borrow.Author.Tests.{ltb-true, ltb-false, lt-leb, le-leb}
-use Prim.Native.Nat.{ℕ, zero, suc, ◌+◌, ◌-◌, ◌<◌, ◌≤◌, ◌%◌}
+use Prim.Native.Nat.{ℕ, zero, suc, ◌<◌, ◌≤◌, ◌%◌}
 use native.Mathlib.Omega.{arith}
 use native.Mathlib.Nat.{mod-lt}
 use lib.Dec.{T, leb, leb→le, lit<}
 use lib.IntN.{ℤ, pos, negsuc, neg_ℤ, nat_abs, ◌+ℤ◌, ◌-ℤ◌, +ℤ_idl}
-use lib.Signed.{mag, lt_z, le_z, non_neg}
+use lib.Signed.{lt_z, le_z, non_neg}
 use mir.Syntax.{w32}
 use mir.Val.{Fits, SFits, to_z, of_z}
 use mir.Facts.{to_z-of_z, and_yes, Fits-nat_abs}
 use Rattle.points.specs.Plane.{in_range, legal}
 use Rattle.points.specs.declared.Point.{Point}
-use Rattle.points.specs.declared.Sign.TheVariants.{Minus, Zero, Plus}
+use Rattle.points.specs.declared.Sign.TheVariants.{Minus, Plus}
 use Rattle.points.specs.Compass.{sign_of, dx_of, dy_of}
 use Rattle.directions.specs.Offsets.{off_x, off_y}
 use Rattle.directions.proofs.Eight.{by_eight}

@@ -112,10 +112,8 @@ pub fn numbers(s: &[u8], count: usize) -> [i32; 200]
     ensures { (count ≤ length result) × (count ≡ length (take count result)) }
 {
     let mut list = [0i32; 200];
-    let mut k: usize = 0;
-    while k < count {
+    for k in 0..count {
         list[k] = lists::i16_at(s, 2 + 2 * k);
-        k += 1;
     }
     list
 }
@@ -134,10 +132,8 @@ fn unlike_at(v: i32, s: &[u8], count: usize, k: usize) -> u64
 pub fn unlike(s: &[u8], out: &[i32]) -> u64 {
     let count = 2 * lists::u16_at(s, 0) as usize;
     let mut wrong: u64 = 0;
-    let mut k: usize = 0;
-    while k < out.len() {
-        wrong = std::num::wrapping_add_u64(wrong, unlike_at(out[k], s, count, k));
-        k += 1;
+    for (k, v) in out.iter().enumerate() {
+        wrong = wrong.wrapping_add(unlike_at(*v, s, count, k));
     }
     wrong
 }

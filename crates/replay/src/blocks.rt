@@ -1,6 +1,7 @@
 // The blocks of the list, and what is printed.
-ghost use Rattle.std.specs.Prelude.{◌≡◌};
-ghost use Rattle.io.specs.Counts.{IsPrefixLen};
+ghost use Rattle.std.specs.Prelude.{◌≡◌, ◌≤◌, length, take};
+
+use std::io::Read;
 
 // A block's kind, 0 for none, and how many bytes come after it.
 #[derive(Clone, Copy)]
@@ -16,52 +17,60 @@ fn none() -> Block
 }
 
 // The length and the kind, with which a block begins. A length of 0, as at the list's end, leaves a count that no buffer has.
-fn head(fd: i32) -> Block {
+fn head(input: &mut impl Read) -> Block {
     let mut bytes = [0u8; 5];
-    io::read_full(fd, &mut bytes);
+    prompt::read_full(input, &mut bytes);
     let read = &bytes[..];
     Block {
         kind: lists::u8_at(read, 4),
-        count: std::num::wrapping_sub_usize(lists::u32_at(read, 0) as usize, 1),
+        count: (lists::u32_at(read, 0) as usize).wrapping_sub(1),
     }
 }
 
 // Reads the next block, its bytes after the kind to the front of buf. None at the list's end, and where a block is cut short or is
 // longer than buf.
-pub fn next_block(fd: i32, buf: &mut [u8]) -> Block
-    ensures { IsPrefixLen result.count buf.new }
+pub fn next_block(input: &mut impl Read, buf: &mut [u8]) -> Block
+    ensures within { result.count ≤ length buf.new }
+    ensures front { result.count ≡ length (take result.count buf.new) }
 {
-    let b = head(fd);
+    let b = head(input);
     let n = b.count;
     if buf.len() < n {
         return none();
     }
-    let got = io::read_full(fd, &mut buf[..n]);
+    let got = prompt::read_full(input, &mut buf[..n]);
     if got < n {
         return none();
     }
     b
 }
 
-// Writes a name, a number and the line's end to standard output.
-pub fn say(name: &[u8], value: u64) {
-    io::write_all(1, name);
-    io::print_decimal(1, value);
-    io::write_all(1, b"\n");
+// Writes words on standard output. A write that fails can be told to nobody.
+fn put(rt: &impl Print, words: &[u8]) {
+    let _ = rt.write_all(words);
 }
 
-fn say_count(counts: [u64; 17], k: usize) {
-    io::write_all(1, b" ");
-    io::print_decimal(1, counts[k % 17]);
+fn put_number(rt: &impl Print, value: u64) {
+    let _ = rt.print(value);
+}
+
+// Writes a name, a number and the line's end to standard output.
+pub fn say(rt: &impl Print, name: &[u8], value: u64) {
+    put(rt, name);
+    put_number(rt, value);
+    put(rt, b"\n");
+}
+
+fn say_count(rt: &impl Print, counts: [u64; 17], k: usize) {
+    put(rt, b" ");
+    put_number(rt, counts[k % 17]);
 }
 
 // Writes a line of names and the counts from one place to another.
-pub fn say_counts(names: &[u8], counts: [u64; 17], from: usize, to: usize) {
-    io::write_all(1, names);
-    let mut k = from;
-    while k < to {
-        say_count(counts, k);
-        k += 1;
+pub fn say_counts(rt: &impl Print, names: &[u8], counts: [u64; 17], from: usize, to: usize) {
+    put(rt, names);
+    for k in from..to {
+        say_count(rt, counts, k);
     }
-    io::write_all(1, b"\n");
+    put(rt, b"\n");
 }

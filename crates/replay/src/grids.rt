@@ -61,13 +61,11 @@ fn cell_point(k: usize, width: usize) -> Point {
 fn with_bits(g: Grid, diagonal: bool, s: &[u8]) -> Grid {
     let count = lists::u16_at(s, 0) as usize;
     let mut out = g;
-    let mut k: usize = 0;
-    while k < count {
+    for k in 0..count {
         if lists::u8_at(s, 2 + k / 8) >> ((k % 8) as u32) & 1 == 1 {
             let c = grid::set(out, diagonal, cell_point(k, out.width), true);
             out = c.grid;
         }
-        k += 1;
     }
     out
 }
@@ -124,10 +122,8 @@ pub fn with_records(kind: u8, g: Grid, diagonal: bool, s: &[u8], count: usize) -
     requires { count < 65536 }
 {
     let mut out = g;
-    let mut k: usize = 0;
-    while k < count {
+    for k in 0..count {
         out = with_record(kind, out, diagonal, s, k);
-        k += 1;
     }
     out
 }

@@ -171,7 +171,7 @@ fn compare(kind: u8, width: usize, s: &[u8]) -> Tally
     let mut k: usize = 0;
     let mut differ: u64 = 0;
     while at < s.len() {
-        differ = std::num::wrapping_add_u64(differ, wrong(kind, k, &s[at..]));
+        differ = differ.wrapping_add(wrong(kind, k, &s[at..]));
         at += width;
         k += 1;
     }

@@ -17,6 +17,7 @@ mod walks; // paths
 
 use answers::Tally;
 use grid::Grid;
+use std::io::Read;
 
 // The grid in hand, its flag, what was counted of each kind of answer, and the differences.
 #[derive(Clone, Copy)]
@@ -28,52 +29,52 @@ struct Run {
 }
 
 // Says of a block that it has differences.
-fn show(y: Tally, before: u64) {
+fn show(rt: &impl Print, y: Tally, before: u64) {
     if y.wrong != 0 {
-        blocks::say(b"differences of a block: ", y.wrong);
-        blocks::say(b"  the place of its count: ", y.place as u64);
-        blocks::say(b"  the count before it: ", before);
+        blocks::say(rt, b"differences of a block: ", y.wrong);
+        blocks::say(rt, b"  the place of its count: ", y.place as u64);
+        blocks::say(rt, b"  the count before it: ", before);
     }
 }
 
-fn added(run: Run, y: Tally) -> Run {
+fn added(rt: &impl Print, run: Run, y: Tally) -> Run {
     let mut next = run;
     let i = y.place % 17;
     let before = next.counts[i];
-    show(y, before);
-    next.counts[i] = std::num::wrapping_add_u64(before, y.count);
-    next.wrong = std::num::wrapping_add_u64(next.wrong, y.wrong);
+    show(rt, y, before);
+    next.counts[i] = before.wrapping_add(y.count);
+    next.wrong = next.wrong.wrapping_add(y.wrong);
     next
 }
 
 // A step of the tables: what it makes of the grid in hand, and its questions.
-fn stepped(run: Run, s: &[u8]) -> Run {
+fn stepped(rt: &impl Print, run: Run, s: &[u8]) -> Run {
     let diagonal = tables::turned(s, run.diagonal);
     let change = tables::call(s, run.grid, diagonal);
     let g = change.grid;
-    let mut next = added(run, tables::compare(s, run.grid, change));
+    let mut next = added(rt, run, tables::compare(s, run.grid, change));
     next.grid = g;
     next.diagonal = diagonal;
     let cells = tables::after_changes(s);
-    let asked = added(next, tables::asked(g, diagonal, 10, 10, cells));
+    let asked = added(rt, next, tables::asked(g, diagonal, 10, 10, cells));
     let reaches = tables::after_cells(cells);
-    added(asked, tables::asked(g, diagonal, 11, 9, reaches))
+    added(rt, asked, tables::asked(g, diagonal, 11, 9, reaches))
 }
 
 // A grid, which is then the one in hand.
-fn gridded(run: Run, g: Grid) -> Run {
-    let mut next = added(run, answers::one(12, 0));
+fn gridded(rt: &impl Print, run: Run, g: Grid) -> Run {
+    let mut next = added(rt, run, answers::one(12, 0));
     next.grid = g;
     next
 }
 
 // A grid by calls or by its tables, or a search on the one in hand.
-fn searched(run: Run, s: &[u8]) -> Run {
+fn searched(rt: &impl Print, run: Run, s: &[u8]) -> Run {
     let kind = lists::u8_at(s, 0);
     match kind {
-        0 => gridded(run, searches::by_calls(s)),
-        1 => gridded(run, searches::by_tables(s)),
-        _ => added(run, answers::one(13, searches::replay(s, run.grid))),
+        0 => gridded(rt, run, searches::by_calls(s)),
+        1 => gridded(rt, run, searches::by_tables(s)),
+        _ => added(rt, run, answers::one(13, searches::replay(s, run.grid))),
     }
 }
 
@@ -88,51 +89,51 @@ fn alone(kind: u8, s: &[u8]) -> Tally {
     }
 }
 
-fn one_block(run: Run, kind: u8, s: &[u8]) -> Run {
+fn one_block(rt: &impl Print, run: Run, kind: u8, s: &[u8]) -> Run {
     match kind {
-        2 => stepped(run, s),
-        3 => searched(run, s),
-        _ => added(run, alone(kind, s)),
+        2 => stepped(rt, run, s),
+        3 => searched(rt, run, s),
+        _ => added(rt, run, alone(kind, s)),
     }
 }
 
-// Every block. Nothing says that a list ends, so the turns are counted down.
-fn every_block() -> Run {
+// Every block. Nothing says that a list ends, so the turns are counted.
+fn every_block(rt: &impl Print, input: &mut impl Read) -> Run {
     let mut run = Run {
         grid: grids::blank(1, 1),
         diagonal: true,
         counts: [0; 17],
         wrong: 0,
     };
-    let mut turns: usize = 1000000000;
-    while turns > 0 {
-        let mut buf = io::large_buffer();
-        let b = blocks::next_block(libc::STDIN_FILENO, &mut buf);
+    for _ in 0..1000000000usize {
+        let mut buf = [0u8; 65536];
+        let b = blocks::next_block(input, &mut buf);
         let n = b.count;
         if b.kind == 0 {
             return run;
         }
-        run = one_block(run, b.kind, &buf[..n]);
-        turns -= 1;
+        run = one_block(rt, run, b.kind, &buf[..n]);
     }
     run
 }
 
-fn tell(run: Run) {
+fn tell(rt: &impl Print, run: Run) {
     let counts = run.counts;
     blocks::say_counts(
+        rt,
         b"masks (forced, pruned, without diagonals), directions, turns, headings, distances, scaled:",
         counts,
         1,
         9,
     );
-    blocks::say_counts(b"steps, cells asked, questions asked:", counts, 9, 12);
-    blocks::say_counts(b"grids, searches:", counts, 12, 14);
-    blocks::say_counts(b"paths, checks, texts:", counts, 14, 17);
-    blocks::say(b"differences=", run.wrong);
+    blocks::say_counts(rt, b"steps, cells asked, questions asked:", counts, 9, 12);
+    blocks::say_counts(rt, b"grids, searches:", counts, 12, 14);
+    blocks::say_counts(rt, b"paths, checks, texts:", counts, 14, 17);
+    blocks::say(rt, b"differences=", run.wrong);
 }
 
-fn main() {
-    examples::run();
-    tell(every_block());
+fn main(rt: HostRuntime) {
+    examples::run(&rt);
+    let run = every_block(&rt, &mut rt.stdin());
+    tell(&rt, run);
 }

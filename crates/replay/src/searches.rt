@@ -111,7 +111,7 @@ fn compared(a: Answer, s: &[u8], out: &[i32]) -> u64 {
     let o = a.outcome;
     let pops = answers::unequal(a.pops as u64, lists::u32_at(s, 5) as u64);
     let unlike = answers::unlike(answers::rest(s, 13), out);
-    std::num::wrapping_add_u64(pops | outcome_wrong(o, s), unlike)
+    (pops | outcome_wrong(o, s)).wrapping_add(unlike)
 }
 
 fn untouched() -> [i32; 8200]

@@ -42,10 +42,8 @@ fn bytes_unlike(before: u64, have: [u8; 4096], want: [u8; 4096], n: usize) -> u6
     requires { n ≤ 4096 }
 {
     let mut wrong = before;
-    let mut i: usize = 0;
-    while i < n {
-        wrong = std::num::wrapping_add_u64(wrong, (have[i] != want[i]) as u64);
-        i += 1;
+    for i in 0..n {
+        wrong = wrong.wrapping_add((have[i] != want[i]) as u64);
     }
     wrong
 }
@@ -55,10 +53,8 @@ fn parents_unlike(before: u64, have: [u16; 4096], want: [u16; 4096], n: usize) -
     requires { n ≤ 4096 }
 {
     let mut wrong = before;
-    let mut i: usize = 0;
-    while i < n {
-        wrong = std::num::wrapping_add_u64(wrong, (have[i] != want[i]) as u64);
-        i += 1;
+    for i in 0..n {
+        wrong = wrong.wrapping_add((have[i] != want[i]) as u64);
     }
     wrong
 }
@@ -208,14 +204,12 @@ pub fn asked(g: Grid, diagonal: bool, place: usize, width: usize, s: &[u8]) -> T
     requires { width ≤ 10 }
 {
     let count = lists::u16_at(s, 0);
-    let mut left = count;
     let mut at: usize = 2;
     let mut wrong: u64 = 0;
-    while 0 < left {
+    for _ in 0..count {
         let r = answers::rest(s, at);
-        wrong = std::num::wrapping_add_u64(wrong, question_wrong(g, diagonal, width, r));
+        wrong = wrong.wrapping_add(question_wrong(g, diagonal, width, r));
         at += width;
-        left -= 1;
     }
     Tally {
         place,
@@ -273,5 +267,5 @@ pub fn compare(s: &[u8], before: Grid, change: Change) -> Tally {
     let told_outcome = outcome_told(outcome, answers::small_point(s, 1));
     let unlike = tables_unlike(change.grid, told(s, before), answers::count_at(s, 6, 4096));
     let wrong = answers::byte_wrong(told_outcome, s, 4);
-    answers::one(9, std::num::wrapping_add_u64(wrong, unlike))
+    answers::one(9, wrong.wrapping_add(unlike))
 }

@@ -1,7 +1,6 @@
 // Blocks of map texts and of what `route` prints of them; each map that is read is written again, and has to give its text.
 // Their form stands at the head of oracle/tools/src/bin/texts.rs.
-ghost use Rattle.std.specs.Prelude.{◌≤◌, length};
-ghost use Rattle.io.specs.Counts.{IsPrefixLen};
+ghost use Rattle.std.specs.Prelude.{◌≡◌, ◌≤◌, length, take};
 
 use super::answers;
 use floors::{MapRead, Put};
@@ -13,10 +12,8 @@ fn unlike(a: &[u8], b: &[u8]) -> u64 {
         return 1;
     }
     let mut wrong: u64 = 0;
-    let mut i: usize = 0;
-    while i < a.len() {
-        wrong = std::num::wrapping_add_u64(wrong, answers::byte_wrong(a[i], b, i));
-        i += 1;
+    for (i, v) in a.iter().enumerate() {
+        wrong = wrong.wrapping_add(answers::byte_wrong(*v, b, i));
     }
     wrong
 }
@@ -24,7 +21,8 @@ fn unlike(a: &[u8], b: &[u8]) -> u64 {
 // What `route` prints of a text, and how many bytes it is.
 fn printed(text: &[u8], out: &mut [u8; router::PRINT]) -> usize
     requires { 82100 ≤ length out.old }
-    ensures { IsPrefixLen result out.new }
+    ensures within { result ≤ length out.new }
+    ensures front { result ≡ length (take result out.new) }
 {
     router::route_text(text, out)
 }
@@ -64,5 +62,5 @@ pub fn replay(s: &[u8]) -> u64 {
         return 1;
     }
     let text = &s[2..to];
-    std::num::wrapping_add_u64(printed_wrong(text, answers::rest(s, to)), rewritten(text))
+    printed_wrong(text, answers::rest(s, to)).wrapping_add(rewritten(text))
 }

@@ -23,7 +23,7 @@ fn answer_wrong(w: Written, s: &[u8]) -> u64 {
 // 1 where the answer differs from the one that s begins with, and 1 for each place of the output that does.
 fn compared(w: Written, s: &[u8], out: &[i32]) -> u64 {
     let wrong = answers::unlike(answers::rest(s, 5), out);
-    std::num::wrapping_add_u64(wrong, answer_wrong(w, s))
+    wrong.wrapping_add(answer_wrong(w, s))
 }
 
 // The call, with the list's numbers lent and as much of the output as the list says.

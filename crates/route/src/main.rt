@@ -2,10 +2,22 @@
 // What is wrong with a map is said in words too, on standard error.
 #![tactic(auto)]
 
-use libc::{STDERR_FILENO, STDIN_FILENO, STDOUT_FILENO};
+use prompt::EprintBytes;
+use std::env::Env;
+use std::fs::Files;
+use std::io;
+use std::io::Read;
 
-fn say_help() {
-    if !prompt::help(
+// Tells of a write on standard output that failed.
+fn tell_unwritten(rt: &impl EprintBytes, wrote: io::Result<()>) {
+    if let Err(e) = wrote {
+        prompt::fail(rt, b"route: ", b"standard output", e);
+    }
+}
+
+fn say_help(rt: &(impl Print + EprintBytes)) {
+    let wrote = prompt::help(
+        rt,
         b"route finds a way for a cart on the floor of a map, and prints it as numbers.
 
   route FILE      the map in this file
@@ -24,53 +36,43 @@ or, of a text that is no map,
   line=7          the first bad or missing line from 1; 0 where there are more than 8192 bytes
 and says on standard error what is wrong there, or with the file.
 ",
-    ) {
-        os::fail(b"route: standard output");
-    }
+    );
+    tell_unwritten(rt, wrote);
 }
 
-// Prints the route of the map that can be read from a file descriptor, and what is wrong with it.
-fn route_from(name: &[u8], fd: i32) {
+// Prints the route of the map that an input gives, and what is wrong with it.
+fn route_from(rt: &(impl Print + EprintBytes), name: &[u8], input: &mut impl Read) {
     let mut text = [0u8; 8193];
-    let n = io::read_full(fd, &mut text);
+    let n = prompt::read_full(input, &mut text);
     let mut out = [0u8; router::PRINT];
     let m = router::route_text(&text[..n], &mut out);
-    if !io::write_all(STDOUT_FILENO, &out[..m]) {
-        os::fail(b"route: standard output");
-    }
-    prompt::tell_fault(b"route: ", name, &text[..n]);
+    tell_unwritten(rt, rt.write_all(&out[..m]));
+    prompt::tell_fault(rt, b"route: ", name, &text[..n]);
 }
 
 // Prints the route of the map in the file that argument 1 names.
-fn route_file() {
-    let mut path = io::buffer();
-    let length = os::arg(1, &mut path);
-    if os::errno() != 0 {
-        os::fail(b"route: file name");
+fn route_file(rt: &(impl Env + Files + Print + EprintBytes)) {
+    let mut path = [0u8; 4096];
+    let Some(length) = prompt::file_name(rt, b"route: ", 1, &mut path) else {
         return;
-    }
+    };
     let name = &path[..length];
-    if check::same(name, b"--help") {
-        say_help();
+    if name == b"--help".as_slice() {
+        say_help(rt);
         return;
     }
-    let fd = prompt::open(b"route: ", name);
-    if 0 <= fd {
-        route_from(name, fd);
-        libc::close(fd);
+    if let Some(mut file) = prompt::open(rt, b"route: ", name) {
+        route_from(rt, name, &mut file);
     }
 }
 
-fn main() {
-    let n = os::arg_count();
+fn main(rt: HostRuntime) {
+    let n = prompt::arg_count(&rt);
     if n < 2 {
-        route_from(b"standard input", STDIN_FILENO);
+        route_from(&rt, b"standard input", &mut rt.stdin());
     } else if n == 2 {
-        route_file();
+        route_file(&rt);
     } else {
-        io::write_all(
-            STDERR_FILENO,
-            b"route: one file at a time; route --help says more\n",
-        );
+        prompt::warn(&rt, b"route: one file at a time; route --help says more\n");
     }
 }

@@ -16,7 +16,7 @@ use Rattle.fringe.specs.Fringe.{top, rest}
 use Rattle.keys.specs.Keys.{cost_of}
 use Rattle.nodes.specs.Nodes.{nodes}
 use Rattle.offers.specs.declared.Mark.{Mark}
-use Rattle.offers.specs.Search.{State, view, Out, Expansion, area_of, popped, visit_of, hit, on, halt, to_turn, turn_of, run, found, refused, begin, search_of, Fit, Lent}
+use Rattle.offers.specs.Search.{State, view, Out, Expansion, area_of, popped, visit_of, hit, on, to_turn, turn_of, run, found, refused, begin, search_of, Fit, Lent}
 use Rattle.offers.proofs.Laws.{count_le}
 use Rattle.offers.proofs.Good.{good_popped, turn_next, lent_next}
 use Rattle.offers.proofs.Start.{begin_good}

@@ -7,8 +7,12 @@ use checks::Checked;
 use finder::{Answer, Outcome};
 use grid::Grid;
 use legs::Bend;
-use libc::{STDIN_FILENO, STDOUT_FILENO};
 use points::{Point, Refusal};
+use prompt::EprintBytes;
+use std::env::Env;
+use std::fs::Files;
+use std::io;
+use std::io::Read;
 
 // What became of standard output. Nothing is written yet, and one floor alone is to be (Alone) or several (Fresh); something is written (Begun);
 // or a write failed, which was told (Failed).
@@ -20,23 +24,32 @@ enum Out {
     Failed,
 }
 
+// What became of standard output by a write; one that failed is told.
+fn written(rt: &impl EprintBytes, wrote: io::Result<()>) -> Out {
+    match wrote {
+        Ok(()) => Out::Begun,
+        Err(e) => {
+            prompt::fail(rt, b"show: ", b"standard output", e);
+            Out::Failed
+        }
+    }
+}
+
 // Writes words, but none after a write that failed.
-fn say(out: Out, words: &[u8]) -> Out {
+fn say(rt: &(impl Print + EprintBytes), out: Out, words: &[u8]) -> Out {
     if let Out::Failed = out {
         return out;
     }
-    if io::write_all(STDOUT_FILENO, words) {
-        return Out::Begun;
-    }
-    os::fail(b"show: standard output");
-    Out::Failed
+    written(rt, rt.write_all(words))
 }
 
 // Writes words and a number after them.
-fn say_number(out: Out, words: &[u8], n: usize) -> Out {
-    let mut digits = [0u8; 20];
-    let k = io::decimal(n as u64, &mut digits);
-    say(say(out, words), &digits[..k])
+fn say_number(rt: &(impl Print + EprintBytes), out: Out, words: &[u8], n: usize) -> Out {
+    let told = say(rt, out, words);
+    if let Out::Failed = told {
+        return told;
+    }
+    written(rt, rt.print(n))
 }
 
 // The cell of a point, or one past the largest floor where the point is outside.
@@ -61,14 +74,8 @@ fn put(canvas: &mut [u8], w: usize, h: usize, p: Point, mark: u8) {
 
 // Draws a mark at each point of a list that is inside.
 fn put_all(canvas: &mut [u8], w: usize, h: usize, list: &[i32], mark: u8) {
-    if list.len() == 0 {
-        return;
-    }
-    let last = list.len() - 1;
-    let mut i: usize = 0;
-    while i < last {
-        put(canvas, w, h, pairs::point_at(list, i), mark);
-        i += 2;
+    for k in 0..list.len() / 2 {
+        put(canvas, w, h, pairs::point_at(list, 2 * k), mark);
     }
 }
 
@@ -83,45 +90,42 @@ fn glyph(cell: u8) -> u8 {
 
 // Draws the cells that nothing is drawn on.
 fn put_cells(canvas: &mut [u8]) {
-    let mut i: usize = 0;
-    while i < canvas.len() {
-        canvas[i] = glyph(canvas[i]);
-        i += 1;
+    for cell in canvas.iter_mut() {
+        *cell = glyph(*cell);
     }
 }
 
 // The rows, a line each.
-fn say_rows(out: Out, canvas: &[u8], w: usize, h: usize) -> Out {
+fn say_rows(rt: &(impl Print + EprintBytes), out: Out, canvas: &[u8], w: usize, h: usize) -> Out {
     let mut now = out;
     let mut from: usize = 0;
-    let mut left = h;
-    while 0 < left {
-        let to = std::num::wrapping_add_usize(from, w);
+    for _ in 0..h {
+        let to = from.wrapping_add(w);
         if to < from {
             return now;
         }
         if canvas.len() < to {
             return now;
         }
-        now = say(say(now, &canvas[from..to]), b"\n");
+        now = say(rt, say(rt, now, &canvas[from..to]), b"\n");
         from = to;
-        left -= 1;
     }
     now
 }
 
 // Why there is no route.
-fn say_refusal(out: Out, r: Refusal) -> Out {
+fn say_refusal(rt: &(impl Print + EprintBytes), out: Out, r: Refusal) -> Out {
     match r {
-        Refusal::NoRoute => say(out, b"no route: the start and the goal are not joined"),
+        Refusal::NoRoute => say(rt, out, b"no route: the start and the goal are not joined"),
         Refusal::Exhausted => say(
+            rt,
             out,
             b"no route found: all that the search reaches was searched",
         ),
-        Refusal::Depth => say(out, b"refused: jumps nest deeper than the limit"),
-        Refusal::Fringe => say(out, b"refused: more open cells than the limit"),
-        Refusal::Pops => say(out, b"refused: more cells to look at than the limit"),
-        _ => say_number(out, b"refused with number ", r.told().number as usize),
+        Refusal::Depth => say(rt, out, b"refused: jumps nest deeper than the limit"),
+        Refusal::Fringe => say(rt, out, b"refused: more open cells than the limit"),
+        Refusal::Pops => say(rt, out, b"refused: more cells to look at than the limit"),
+        _ => say_number(rt, out, b"refused with number ", r.told().number as usize),
     }
 }
 
@@ -154,7 +158,7 @@ fn letter(blocked: &[u8], w: usize, h: usize, p: Point, mark: u8) -> u8 {
     if blocked[c] == 0 {
         return mark;
     }
-    std::num::wrapping_add_u8(mark, 32)
+    mark.wrapping_add(32)
 }
 
 // The letter of the goal, which is drawn over the start.
@@ -169,53 +173,71 @@ fn goal_mark(start: Point, goal: Point) -> u8 {
 }
 
 // Says what is to be known of an end of the way, by its letter.
-fn say_end(out: Out, who: &[u8], letter: u8) -> Out {
+fn say_end(rt: &(impl Print + EprintBytes), out: Out, who: &[u8], letter: u8) -> Out {
     if letter == b'?' {
-        return say(say(out, who), b" is outside the floor\n");
+        return say(rt, say(rt, out, who), b" is outside the floor\n");
     }
     if letter < b'a' {
         return out;
     }
-    say(say(out, who), b" is on a blocked cell\n")
+    say(rt, say(rt, out, who), b" is on a blocked cell\n")
 }
 
 // Says that a way was found; it has one waypoint where the start is the goal.
-fn say_found(out: Out, waypoints: usize) -> Out {
-    let told = say_number(out, b"found, waypoints: ", waypoints);
+fn say_found(rt: &(impl Print + EprintBytes), out: Out, waypoints: usize) -> Out {
+    let told = say_number(rt, out, b"found, waypoints: ", waypoints);
     if waypoints == 1 {
-        return say(told, b", the start is the goal");
+        return say(rt, told, b", the start is the goal");
     }
     told
 }
 
 // Says which leg of a way is the first that is bent, where the route check names one.
-fn say_bend(out: Out, checked: Checked) -> Out {
+fn say_bend(rt: &(impl Print + EprintBytes), out: Out, checked: Checked) -> Out {
     let Checked::Judged(_, bend) = checked else {
         return out;
     };
     let Bend::Leg(k) = bend else {
         return out;
     };
-    let named = say_number(out, b"\nfirst bent leg: ", k);
-    let from = say_number(named, b", from waypoint ", k);
-    say_number(from, b" to waypoint ", std::num::wrapping_add_usize(k, 1))
+    let named = say_number(rt, out, b"\nfirst bent leg: ", k);
+    let from = say_number(rt, named, b", from waypoint ", k);
+    say_number(rt, from, b" to waypoint ", k.wrapping_add(1))
 }
 
 // What came of a search on a grid, its waypoints at the front of the list.
-fn say_answer(out: Out, g: Grid, list: &[i32], answer: Answer) -> Out {
+fn say_answer(
+    rt: &(impl Print + EprintBytes),
+    out: Out,
+    g: Grid,
+    list: &[i32],
+    answer: Answer,
+) -> Out {
     let outcome = answer.outcome;
     let told = match outcome {
-        Outcome::Found(n, _) => say_bend(say_found(out, n), checks::check_route(g, first(list, n))),
-        Outcome::Refused(r) => say_refusal(out, r),
+        Outcome::Found(n, _) => say_bend(
+            rt,
+            say_found(rt, out, n),
+            checks::check_route(g, first(list, n)),
+        ),
+        Outcome::Refused(r) => say_refusal(rt, out, r),
     };
     say(
-        say_number(told, b"\npops of the search: ", answer.pops),
+        rt,
+        say_number(rt, told, b"\npops of the search: ", answer.pops),
         b"\n",
     )
 }
 
 // Searches, draws the way on a copy of the grid's cells, and tells what came of it.
-fn draw(out: Out, g: Grid, diagonal: bool, start: Point, goal: Point) -> Out {
+fn draw(
+    rt: &(impl Print + EprintBytes),
+    out: Out,
+    g: Grid,
+    diagonal: bool,
+    start: Point,
+    goal: Point,
+) -> Out {
     let w = g.width;
     let h = g.height;
     let mut canvas = g.blocked;
@@ -228,34 +250,35 @@ fn draw(out: Out, g: Grid, diagonal: bool, start: Point, goal: Point) -> Out {
     put(&mut canvas, w, h, start, s);
     put(&mut canvas, w, h, goal, t);
     put_cells(&mut canvas);
-    let drawn = say_rows(out, &canvas, w, h);
-    let told = say_answer(drawn, g, &list, answer);
-    say_end(say_end(told, b"the start", s), b"the goal", t)
+    let drawn = say_rows(rt, out, &canvas, w, h);
+    let told = say_answer(rt, drawn, g, &list, answer);
+    say_end(rt, say_end(rt, told, b"the start", s), b"the goal", t)
 }
 
 // Writes the name of a file over its floor, where several are named, and an empty line between floors.
-fn say_name(out: Out, name: &[u8]) -> Out {
+fn say_name(rt: &(impl Print + EprintBytes), out: Out, name: &[u8]) -> Out {
     let apart = match out {
         Out::Alone => return out,
-        Out::Begun => say(out, b"\n"),
+        Out::Begun => say(rt, out, b"\n"),
         _ => out,
     };
-    say(say(apart, name), b"\n")
+    say(rt, say(rt, apart, name), b"\n")
 }
 
-// Shows the map that can be read from a file descriptor.
-fn show_from(out: Out, name: &[u8], fd: i32) -> Out {
+// Shows the map that an input gives.
+fn show_from(rt: &(impl Print + EprintBytes), out: Out, name: &[u8], input: &mut impl Read) -> Out {
     let mut text = [0u8; 8193];
-    let n = io::read_full(fd, &mut text);
+    let n = prompt::read_full(input, &mut text);
     let m = floors::read_map(&text[..n]);
     let outcome = m.outcome;
     if let grid::Outcome::Refused(_) = outcome {
-        prompt::tell_fault(b"show: ", name, &text[..n]);
+        prompt::tell_fault(rt, b"show: ", name, &text[..n]);
         return out;
     }
     let rebuilt = grid::generate_components(m.grid, m.diagonal);
     draw(
-        say_name(out, name),
+        rt,
+        say_name(rt, out, name),
         rebuilt.grid,
         m.diagonal,
         m.start,
@@ -263,11 +286,12 @@ fn show_from(out: Out, name: &[u8], fd: i32) -> Out {
     )
 }
 
-fn say_help(out: Out) -> Out {
+fn say_help(rt: &(impl Print + EprintBytes), out: Out) -> Out {
     if let Out::Failed = out {
         return out;
     }
-    if prompt::help(
+    let wrote = prompt::help(
+        rt,
         b"show draws the floor of a map, with the way of a cart from its start to its goal.
 
   show FILE...    the maps in these files, each under its name where there are several
@@ -280,42 +304,34 @@ Below stand what came of the search, the first bent leg if there is one (from a 
 but not in a straight line), and the pops of the search: the cells that it took up to look at.
 What is wrong with a map is said on standard error, and the other files are shown.
 ",
-    ) {
-        return Out::Begun;
-    }
-    os::fail(b"show: standard output");
-    Out::Failed
+    );
+    written(rt, wrote)
 }
 
 // Shows the map in the file that an argument names.
-fn show_file(out: Out, i: usize) -> Out {
-    let mut path = io::buffer();
-    let length = os::arg(i, &mut path);
-    if os::errno() != 0 {
-        os::fail(b"show: file name");
+fn show_file(rt: &(impl Env + Files + Print + EprintBytes), out: Out, i: usize) -> Out {
+    let mut path = [0u8; 4096];
+    let Some(length) = prompt::file_name(rt, b"show: ", i, &mut path) else {
         return out;
-    }
+    };
     let name = &path[..length];
-    if check::same(name, b"--help") {
-        return say_help(out);
+    if name == b"--help".as_slice() {
+        return say_help(rt, out);
     }
-    let fd = prompt::open(b"show: ", name);
-    if fd < 0 {
-        return out;
+    match prompt::open(rt, b"show: ", name) {
+        Some(mut file) => show_from(rt, out, name, &mut file),
+        None => out,
     }
-    let shown = show_from(out, name, fd);
-    libc::close(fd);
-    shown
 }
 
-fn main() {
-    let n = os::arg_count();
+fn main(rt: HostRuntime) {
+    let n = prompt::arg_count(&rt);
     if n < 2 {
-        show_from(Out::Alone, b"standard input", STDIN_FILENO);
+        show_from(&rt, Out::Alone, b"standard input", &mut rt.stdin());
         return;
     }
     let mut out = if n == 2 { Out::Alone } else { Out::Fresh };
     for i in 1..n {
-        out = show_file(out, i);
+        out = show_file(&rt, out, i);
     }
 }

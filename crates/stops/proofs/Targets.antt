@@ -5,18 +5,16 @@ use mathlib.Core.List.{List}
 use Prim.Native.Nat.{ℕ, zero, suc, ◌+◌, ◌-◌, ◌*◌, ◌/◌, ◌%◌, ◌≤◌, ◌<◌}
 use native.Mathlib.Nat.{div-add-mod', mod-lt, mul_comm}
 use native.Mathlib.Omega.{arith}
-use borrow.Author.Tests.{lt-ltb, le-ltb, eq-eqb, ne_eqb, ltb-true, ltb-false, eqb-true, eqb-false}
+use borrow.Author.Tests.{le-ltb, eq-eqb, ne_eqb, ltb-true, ltb-false, eqb-true, eqb-false}
 use lib.Dec.{ltb, eqb}
 use lib.IntN.{ℤ, pos, negsuc}
-use lib.ListN.{get_or}
 use Rattle.points.specs.declared.Point.{Point}
-use Rattle.masks.specs.Masks.{has_bit}
 use Rattle.cells.specs.Cells.{place_of, cell_of}
 use Rattle.cells.proofs.Cell.{row_lt, same_cell}
 use Rattle.goals.specs.declared.Plan.{Plan}
 use Rattle.goals.specs.declared.Goal.{Goal}
 use Rattle.goals.specs.declared.Goal.TheVariants.{Exact, Near, Several}
-use Rattle.goals.specs.Goals.{most_side, Numbered, both, either, same_z, same_point, point_of, is_goal, goal_at}
+use Rattle.goals.specs.Goals.{most_side, Numbered, both, same_z, same_point, point_of, is_goal, goal_at}
 use Rattle.stops.specs.Stops.{Within, spot_of, number_of, byte_at, stops_at, stops_in, target_in, Marked}
 
 -- the point of a cell's number is the cell's

@@ -7,13 +7,13 @@ use Rattle.goals.specs.declared.Plan.{Plan}
 use Rattle.offers.specs.Search.{Reply, refused}
 use Rattle.plans.specs.declared.Lengths.{Lengths}
 use Rattle.finder.specs.Find as F
-use Rattle.finder.specs.Find.{Ground, ground}
+use Rattle.finder.specs.Find.{Ground, lent_ground}
 use Rattle.grid.specs.declared.Grid.{Grid}
 use Rattle.grid.specs.Grids.{legal_of}
 
 -- what a search reads of a grid
 abbrev pub ground_of : Grid → Ground
-ground_of g = ground g.width g.height g.blocked g.neighbours g.forced
+ground_of g = lent_ground g.width g.height g.blocked g.neighbours g.forced
 
 -- the single_goal search, exact or approximate
 unfoldable pub single_of : Grid → Settings → Lengths → Bool → Point → Point → Reply

@@ -1,0 +1,12 @@
+// Exports: map texts routed, and the route printed.
+ghost use Rattle.std.specs.Prelude.{◌≡◌, length};
+ghost use Rattle.boundary.specs.Texts.{printed_of, print_kept};
+
+// Writes what `route` prints of a map text: how many bytes; the rest of the output is kept.
+// Refuses ROOM where the most that is printed would not fit; then nothing is written.
+#[unsafe(no_mangle)]
+pub extern "C" fn barnsling_route_text(text: &[u8], out: &mut [u8]) -> u64
+    ensures { (result ≡ printed_of text.now (length out.old)) × (out.new ≡ print_kept text.now out.old) }
+{
+    boundary::texts::barnsling_route_text(text, out)
+}

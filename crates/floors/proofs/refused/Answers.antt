@@ -1,0 +1,13 @@
+-- `floors::refused` meets its contract: a new grid of 1 by 1. Assumes nothing.
+use Rattle.floors.proofs.Laws.{new_one}
+use Rattle.floors.specs.Floors.{origin}
+use Rattle.grid.specs.declared.Outcome.TheVariants.{Refused as RefusedOutcome}
+use Rattle.points.specs.declared.Refusal.TheVariants.{Map as MapBroken}
+use mathlib.Core.Bool.{true}
+use mathlib.Core.Path.{ap, ◌∙◌}
+use Rattle.floors.proofs.refused.Goals as goal
+
+pub returns : goal.returns
+returns c =
+    let n = c.args.line in
+    λ i. record { outcome = RefusedOutcome (MapBroken n); grid = (ap (λ r. r.grid) c.new-none.ensures ∙ new_one) i; diagonal = true; start = origin; goal = origin }
