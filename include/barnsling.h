@@ -1,7 +1,7 @@
 /*
  * Barnsling for C and C++: can this cart get there, and which way?
  *
- * Link with target/staticlib/libboundary.a, which `rt staticlib boundary` makes, for x86-64 alone. Of other libraries it wants
+ * Link with target/staticlib/libboundary.a, which `.ci/archive` makes, for x86-64 alone. Of other libraries it wants
  * memcpy and memset and nothing else. Most programs want only the last part of this file, "A grid in one struct"; c/example.c is
  * a whole program.
  *

@@ -1,4 +1,4 @@
-//! Links libboundary.a: of the folder that BARNSLING_LIB_DIR names, else the one that `rt staticlib boundary` writes.
+//! Links libboundary.a: of the folder that BARNSLING_LIB_DIR names, else the one that `.ci/archive` makes.
 use std::path::Path;
 
 fn main() {
@@ -25,7 +25,7 @@ fn has(bytes: &[u8], name: &[u8]) -> bool {
 /// Says what is wrong with the archive and how to get one, and ends the build.
 fn stop(wrong: &str) -> ! {
     eprintln!("barnsling: {wrong}");
-    eprintln!("barnsling: run `rt staticlib boundary` in the root of the repository (some minutes), or rust/test, which does so;");
+    eprintln!("barnsling: run `.ci/archive` in the root of the repository (some minutes), or rust/test, which does so;");
     eprintln!("barnsling: or set BARNSLING_LIB_DIR to a folder that has libboundary.a");
     std::process::exit(1);
 }

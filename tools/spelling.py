@@ -23,6 +23,8 @@ DECLARED = re.compile(
 )
 WORD = re.compile(r"(?<![\w'-])[a-z][\w'-]*(?![\w'-])")
 USE = re.compile(r"\buse ([^\s;{]+)(?:\.\{([^;}]*)\})")
+# A name that is a tactic's word, and what it is called now. Fields of that name, and comments, keep it.
+TACTICS = {"ground": "lent_ground"}
 OLD = re.compile(r"[a-z][\w']*(?:[A-Z-]|_-)[\w'-]*")
 
 
@@ -65,7 +67,14 @@ def own_names():
                     if OLD.fullmatch(name) and snake(name) != name:
                         names.setdefault(name, set()).add(path)
     defined = {snake(n) for n in names if "-" not in n}
-    LEMMAS.update(n for n in names if "-" in n and snake(n) in defined)
+    LEMMAS.update(
+        n
+        for n in names
+        if "-" in n
+        and snake(n) in defined
+        # what `contracts` states of a function has the function's name
+        and not all(p.startswith("crates/contracts/") for p in names[n])
+    )
     return names
 
 
@@ -95,6 +104,26 @@ def clash(names):
             if len(old) > 1 or (n in bare and path.endswith(".antt")):
                 found.append((path, n, sorted(old), n in bare))
     return found
+
+
+def no_tactics(text):
+    """A definition that had a tactic's name, and what imports it; a record's field of that name stands behind a dot or `pub`, and stays."""
+    names = "|".join(TACTICS)
+    if not re.search(
+        r"abbrev pub (%s) :|\.Find\.\{[^}]*\b(%s)\b[^}]*\}" % (names, names), text
+    ):
+        return text
+    lines = text.split("\n")
+    for i, line in enumerate(lines):
+        if not line.lstrip().startswith(("--", "//", "pub ")) and not re.search(
+            r"record \{ ground =", line
+        ):
+            lines[i] = re.sub(
+                r"(?<![\w'.-])(%s)(?![\w'-])" % names,
+                lambda m: TACTICS[m[1]],
+                line,
+            )
+    return "\n".join(lines)
 
 
 def turn(text, names):
@@ -128,8 +157,11 @@ def turn_rust(text, names):
 
 def main(argv):
     if argv == ["--docs"]:
-        known = set(os.environ.get("OWN_NAMES", "").split())
-        for path in [*files(".", ".md")]:
+        known = set()
+        for path in files("crates", ".antt"):
+            if is_lemmas(path):
+                known |= {n for m in DECLARED.finditer(read(path)) for n in m[1].split()}
+        for path in files(".", ".md"):
             text = read(path)
             new = re.sub(
                 r"`[^`\n]+`",
@@ -140,6 +172,7 @@ def main(argv):
             )
             if new != text:
                 open(path, "w", encoding="utf-8", newline="").write(new)
+                print(path)
         return 0
     names = own_names()
     bad = clash(names)
@@ -154,6 +187,10 @@ def main(argv):
     for path in files("crates", ".antt", ".rt", ".edit"):
         text = read(path)
         new = (turn_rust if path.endswith(".rt") else turn)(text, names)
+        if path.endswith(".antt") or re.search(
+            r"crates/(finder|boundary)/src/lib.rt", path
+        ):
+            new = no_tactics(new)
         if new != text:
             n += 1
             open(path, "w", encoding="utf-8", newline="").write(new)
