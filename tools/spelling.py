@@ -133,7 +133,24 @@ def turn(text, names):
         w = m[0]
         return snake(w) if w in names and w not in lent else w
 
-    return WORD.sub(word, text)
+    # in a comment a word with a dash is English
+    def line(m):
+        if m[0].lstrip().startswith(("--", "//")):
+            return WORD.sub(lambda w: w[0] if "-" in w[0] else word(w), m[0])
+        return WORD.sub(word, m[0])
+
+    return re.sub(r"[^\n]+", line, text)
+
+
+def references(clause, before):
+    """What a `&mut` parameter points to, in the form of the other clauses: `x.old` and `x.new`. before: the text up to the clause."""
+    head = before[before.rfind("fn ") :]
+    for p in re.findall(r"\b(\w+): &(?:'\w+ )?mut\b", head):
+        clause = clause.replace(p + ".exit.now", p + ".new")
+        clause = clause.replace(p + ".entry.now", p + ".old")
+        if clause.startswith("requires"):
+            clause = re.sub(r"\b%s\.now\b" % p, p + ".old", clause)
+    return clause
 
 
 def turn_rust(text, names):
@@ -150,7 +167,8 @@ def turn_rust(text, names):
             while depth:
                 depth += {"{": 1, "}": -1}.get(text[end], 0)
                 end += 1
-        out += [text[at : m.start()], turn(text[m.start() : end], names)]
+        clause = turn(text[m.start() : end], names)
+        out += [text[at : m.start()], references(clause, text[: m.start()])]
         at = end
     return "".join(out) + text[at:]
 

@@ -12,7 +12,7 @@ use Rattle.boundary.specs.Lent.{held_of}
 abbrev pub held_in : Ground → List ℕ → List ℕ → Bool
 held_in g p k = held_of g.w g.h g.blocked g.neighbours g.forced p k
 
--- the single_goal search, exact or approximate
+-- the single-goal search, exact or approximate
 unfoldable pub single_lent : Ground → List ℕ → List ℕ → Settings → Lengths → Bool → Point → Point → Reply
 single_lent g p k s l approximate start goal = cond (held_in g p k) (single_of g p s l approximate start goal) (refused State 0)
 

@@ -603,7 +603,7 @@ pub fn barnsling_single_goal(
 }
 
 // The waypoints from a start to one of several goals, given as pairs; the rest as above.
-// Refuses STATE, SETTING, GOALS, POINT, then as the single_goal search does, but never NO_ROUTE.
+// Refuses STATE, SETTING, GOALS, POINT, then as the single-goal search does, but never NO_ROUTE.
 pub fn barnsling_multiple_goals(
     blocked: &[u8],
     neighbours: &[u8],

@@ -146,7 +146,7 @@ module _ (w h : ℕ) (s : Settings) (l : Lengths) (start : Point) (sides : Sides
   pub several_legal : (goals : List ℤ) (n : ℕ) → 1 ≤ n → 2 * n ≤ length goals → Nowhere ≡ bad_of goals n 0 → Legal goals (plan_of w h s (Several n) start)
   several_legal goals n a b c = plan_legal goals (Several n) (a, legals goals n b c)
 
--- ---- the single_goal search, test by test
+-- ---- the single-goal search, test by test
 
 module _ (g : Ground) (links : List ℕ) (s : Settings) (l : Lengths) (approximate : Bool) (start goal : Point) where
   pub single_setting : ready_of s l (g.w * g.h + 1) ≡ false → refused Setting 0 ≡ single_of g links s l approximate start goal
@@ -172,7 +172,7 @@ module _ (g : Ground) (links : List ℕ) (s : Settings) (l : Lengths) (approxima
         unfolding single_of
         single_open e = rw (a, b, c, e)
 
--- past all its tests a single_goal search may be made, and what that answers is its answer
+-- past all its tests a single-goal search may be made, and what that answers is its answer
 module _ (w h : ℕ) (b e f links : List ℕ) (s : Settings) (number place parent cost keys idx : List ℕ) (approximate : Bool) (start goal : Point) (ready : ready_of s (lengths_of number place parent cost keys idx) (w * h + 1) ≡ true) (from : legal start ≡ true) (to : legal goal ≡ true) (k : Goal) (p : Plan) (kind : k ≡ kind_of approximate goal) (same : p ≡ plan_of w h s k start) where
   pub single_asked : Sides w h → Covered (w * h) b e f → Legal (read_pair goal) p × (Covered (p.w * p.h) b e f × Roomy (p.w * p.h + 1) p.settings.fringe number place parent cost keys idx)
   single_asked sides covered =

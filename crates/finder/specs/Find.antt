@@ -87,7 +87,7 @@ pair_of q = q.x ∷ q.y ∷ []
 abbrev pub single_plan : ℕ → ℕ → Settings → Bool → Point → Point → Plan
 single_plan w h s approximate start goal = plan_of w h s (kind_of approximate goal) start
 
--- the single_goal search: SETTING, POINT (start, then goal), NO_ROUTE, then what the search meets. links: the cells' parents in the union-find
+-- the single-goal search: SETTING, POINT (start, then goal), NO_ROUTE, then what the search meets. links: the cells' parents in the union-find
 unfoldable pub single_of : Ground → List ℕ → Settings → Lengths → Bool → Point → Point → Reply
 single_of g links s l approximate start goal =
     cond (ready_of s l (g.w * g.h + 1))

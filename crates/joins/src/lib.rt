@@ -9,7 +9,7 @@ ghost use Rattle.joins.specs.Joins.{Ways, around, ahead, join_cell, joined_to};
 // Cell i is joined with cell c, where c is a cell and free.
 fn join_cell(n: usize, blocked: &[u8], parent: &mut [u16], rank: &mut [u8], i: usize, c: usize)
     requires { Forest 254 n parent.old rank.old × (n ≤ 2 ^ 16) × (i < n) × (n ≤ length blocked.now) }
-    ensures { record { parent = parent.exit.now; rank = rank.new } ≡ join_cell n blocked.now i c (record { parent = parent.entry.now; rank = rank.old }) }
+    ensures { record { parent = parent.new; rank = rank.new } ≡ join_cell n blocked.now i c (record { parent = parent.old; rank = rank.old }) }
 {
     if c < n {
         if blocked[c] == 0 {
@@ -30,7 +30,7 @@ fn join_along(
     ds: &[u8],
 )
     requires { Within w h x y × Ways ds.now × (w * h ≤ length blocked.now) × Forest 200 (w * h) parent.old rank.old }
-    ensures { record { parent = parent.exit.now; rank = rank.new } ≡ joined_to w h blocked.now x y ds.now (record { parent = parent.entry.now; rank = rank.old }) }
+    ensures { record { parent = parent.new; rank = rank.new } ≡ joined_to w h blocked.now x y ds.now (record { parent = parent.old; rank = rank.old }) }
 {
     let n = w * h;
     let i = y * w + x;
@@ -55,7 +55,7 @@ pub fn join_around(
     y: usize,
 )
     requires { Within w h x y × (w * h ≤ length blocked.now) × Forest 200 (w * h) parent.old rank.old }
-    ensures { record { parent = parent.exit.now; rank = rank.new } ≡ joined_to w h blocked.now x y (around diagonal) (record { parent = parent.entry.now; rank = rank.old }) }
+    ensures { record { parent = parent.new; rank = rank.new } ≡ joined_to w h blocked.now x y (around diagonal) (record { parent = parent.old; rank = rank.old }) }
 {
     if diagonal {
         let all = [0u8, 1, 2, 3, 4, 5, 6, 7];
@@ -78,7 +78,7 @@ pub fn join_ahead(
     y: usize,
 )
     requires { Within w h x y × (w * h ≤ length blocked.now) × Forest 200 (w * h) parent.old rank.old }
-    ensures { record { parent = parent.exit.now; rank = rank.new } ≡ joined_to w h blocked.now x y (ahead diagonal) (record { parent = parent.entry.now; rank = rank.old }) }
+    ensures { record { parent = parent.new; rank = rank.new } ≡ joined_to w h blocked.now x y (ahead diagonal) (record { parent = parent.old; rank = rank.old }) }
 {
     if diagonal {
         let six = [4u8, 0, 2, 1, 2, 3];

@@ -46,7 +46,7 @@ pub fn ready(s: Settings, l: Lengths, places: usize) -> bool
     s.fringe <= l.idx
 }
 
-// Whether the component test of a single_goal search says no.
+// Whether the component test of a single-goal search says no.
 pub fn barred(
     links: &[u16],
     ranks: &[u8],

@@ -18,7 +18,7 @@ fn rebuild_cell(
     y: usize,
 )
     requires { Within w h x y × (w * h ≤ length blocked.now) × Forest 200 (w * h) parent.old rank.old }
-    ensures { record { parent = parent.exit.now; rank = rank.new } ≡ cell_joined w h diagonal blocked.now x y (record { parent = parent.entry.now; rank = rank.old }) }
+    ensures { record { parent = parent.new; rank = rank.new } ≡ cell_joined w h diagonal blocked.now x y (record { parent = parent.old; rank = rank.old }) }
 {
     let i = y * w + x;
     if blocked[i] == 0 {
@@ -37,7 +37,7 @@ fn rebuild_column(
     x: usize,
 )
     requires { Sides w h × (x < w) × (w * h ≤ length blocked.now) × Light most_rank (w * h) parent.old rank.old }
-    ensures { record { parent = parent.exit.now; rank = rank.new } ≡ column_to w h diagonal blocked.now x h (record { parent = parent.entry.now; rank = rank.old }) }
+    ensures { record { parent = parent.new; rank = rank.new } ≡ column_to w h diagonal blocked.now x h (record { parent = parent.old; rank = rank.old }) }
 {
     for y in 0..h {
         rebuild_cell(w, h, diagonal, blocked, parent, rank, x, y);
@@ -54,7 +54,7 @@ pub fn rebuild(
     rank: &mut [u8],
 )
     requires { Sides w h × (w * h ≤ length blocked.now) × (w * h ≤ length parent.old) × (w * h ≤ length rank.old) }
-    ensures { record { parent = parent.exit.now; rank = rank.new } ≡ rebuilt_links w h diagonal blocked.now parent.entry.now rank.old }
+    ensures { record { parent = parent.new; rank = rank.new } ≡ rebuilt_links w h diagonal blocked.now parent.old rank.old }
 {
     let n = w * h;
     fills::fill_ident(parent, n);
@@ -75,8 +75,8 @@ pub fn update(
     rank: &mut [u8],
 ) -> bool
     requires { Sides w h × (w * h ≤ length blocked.now) × (w * h ≤ length parent.old) × (w * h ≤ length rank.old) }
-    ensures { (result ≡ false) × (record { parent = parent.exit.now; rank = rank.new }
-        ≡ cond dirty (rebuilt_links w h diagonal blocked.now parent.entry.now rank.old) (record { parent = parent.entry.now; rank = rank.old })) }
+    ensures { (result ≡ false) × (record { parent = parent.new; rank = rank.new }
+        ≡ cond dirty (rebuilt_links w h diagonal blocked.now parent.old rank.old) (record { parent = parent.old; rank = rank.old })) }
 {
     if dirty {
         rebuild(w, h, diagonal, blocked, parent, rank);

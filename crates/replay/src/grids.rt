@@ -1,7 +1,7 @@
 // Grids by calls, and grids by their tables.
 ghost use Rattle.std.specs.Prelude.{◌<◌};
 
-use super::answers;
+use super::tallies;
 use grid::{Change, Grid, Outcome};
 use points::Point;
 
@@ -73,7 +73,7 @@ fn with_bits(g: Grid, diagonal: bool, s: &[u8]) -> Grid {
 // A new grid, whose sides stand at 1 and 2, with the cells set whose bits stand from a place on.
 pub fn blocked(s: &[u8], diagonal: bool, at: usize) -> Grid {
     let c = grid::new(lists::u8_at(s, 1) as usize, lists::u8_at(s, 2) as usize);
-    with_bits(c.grid, diagonal, answers::rest(s, at))
+    with_bits(c.grid, diagonal, tallies::rest(s, at))
 }
 
 // An edit: the cell, and whether it is blocked, a byte each.
@@ -81,7 +81,7 @@ pub fn edit(g: Grid, diagonal: bool, s: &[u8]) -> Change {
     grid::set(
         g,
         diagonal,
-        answers::small_point(s, 0),
+        tallies::small_point(s, 0),
         lists::u8_at(s, 2) == 1,
     )
 }
@@ -109,10 +109,10 @@ fn with_record(kind: u8, g: Grid, diagonal: bool, s: &[u8], k: usize) -> Grid
 {
     match kind {
         0 => {
-            let c = edit(g, diagonal, answers::rest(s, 2 + 3 * k));
+            let c = edit(g, diagonal, tallies::rest(s, 2 + 3 * k));
             c.grid
         }
-        1 => with_change(g, answers::rest(s, 2 + 5 * k)),
+        1 => with_change(g, tallies::rest(s, 2 + 5 * k)),
         _ => with_value(g, s, k),
     }
 }

@@ -1,8 +1,8 @@
 // Blocks of masks, directions and distances. Their form stands at the head of oracle/tools/src/bin/ground.rs.
 ghost use Rattle.std.specs.Prelude.{◌<◌, ◌≤◌};
 
-use super::answers;
-use super::answers::Tally;
+use super::tallies;
+use super::tallies::Tally;
 use bends::Heading;
 use costs::Measure;
 use points::{Direction, Parts, Point, Told};
@@ -29,16 +29,16 @@ fn width_of(kind: u8) -> usize
 // ---- a record of each kind
 
 fn forced_wrong(k: usize, r: &[u8]) -> u64 {
-    answers::byte_wrong(masks::forced_mask((k % 256) as u8), r, 0)
+    tallies::byte_wrong(masks::forced_mask((k % 256) as u8), r, 0)
 }
 
 fn pruned_wrong(diagonal: bool, k: usize, r: &[u8]) -> u64 {
     let d = (k / 256 % 8) as u8;
-    answers::byte_wrong(masks::pruned_mask(diagonal, d, (k % 256) as u8), r, 0)
+    tallies::byte_wrong(masks::pruned_mask(diagonal, d, (k % 256) as u8), r, 0)
 }
 
 fn cardinals_wrong(x: u8, y: u8, r: &[u8]) -> u64 {
-    answers::byte_wrong(x, r, 4) | answers::byte_wrong(y, r, 5)
+    tallies::byte_wrong(x, r, 4) | tallies::byte_wrong(y, r, 5)
 }
 
 fn parts_wrong(d: Direction, r: &[u8]) -> u64 {
@@ -53,10 +53,10 @@ fn parts_wrong(d: Direction, r: &[u8]) -> u64 {
 fn compass_wrong(n: u8, r: &[u8]) -> u64 {
     let d = Direction { number: n };
     let o = d.opposite();
-    answers::byte_wrong(directions::off_x(n) as u8, r, 0)
-        | answers::byte_wrong(directions::off_y(n) as u8, r, 1)
-        | answers::byte_wrong(o.number, r, 2)
-        | answers::byte_wrong(d.diagonal() as u8, r, 3)
+    tallies::byte_wrong(directions::off_x(n) as u8, r, 0)
+        | tallies::byte_wrong(directions::off_y(n) as u8, r, 1)
+        | tallies::byte_wrong(o.number, r, 2)
+        | tallies::byte_wrong(d.diagonal() as u8, r, 3)
         | parts_wrong(d, r)
 }
 
@@ -73,7 +73,7 @@ fn turns_wrong(k: usize, r: &[u8]) -> u64 {
     let eighths = (k % 8) as u8;
     let cw = d.rotate_cw(eighths);
     let ccw = d.rotate_ccw(eighths);
-    answers::byte_wrong(cw.number, r, 0) | answers::byte_wrong(ccw.number, r, 1)
+    tallies::byte_wrong(cw.number, r, 0) | tallies::byte_wrong(ccw.number, r, 1)
 }
 
 fn far_point(r: &[u8], at: usize) -> Point
@@ -89,10 +89,10 @@ fn far_point(r: &[u8], at: usize) -> Point
 fn which(p: Point, a: Point, b: Point) -> u32
     ensures { result ≤ 3 }
 {
-    if answers::equal(p, a) {
+    if tallies::equal(p, a) {
         return 1;
     }
-    if answers::equal(p, b) {
+    if tallies::equal(p, b) {
         return 2;
     }
     3
@@ -133,7 +133,7 @@ pub fn measured(m: Measure, a: Point, b: Point) -> u32 {
 
 fn heading_wrong(r: &[u8]) -> u64 {
     let asked = heading(far_point(r, 0), far_point(r, 8));
-    answers::unequal(asked, lists::u32_at(r, 16) as u64)
+    tallies::unequal(asked, lists::u32_at(r, 16) as u64)
 }
 
 // The distance between two points, or with a kind of 8 the scaled one, against the number at a place.
@@ -187,7 +187,7 @@ pub fn replay(s: &[u8]) -> Tally {
     let kind = lists::u8_at(s, 0);
     let width = width_of(kind);
     if width == 0 {
-        return answers::one(0, 1);
+        return tallies::one(0, 1);
     }
     compare(kind, width, s)
 }

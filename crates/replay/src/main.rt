@@ -4,20 +4,20 @@
 // oracle/tools that printed it: 1 ground, 2 tables, 3 searches, 4 paths, 5 checks, 6 texts.
 #![tactic(auto)]
 
-mod answers; // what is compared and counted
+mod tallies; // what is compared and counted
 mod blocks; // the next block, and what is printed
-mod examples;
+mod run_examples;
 mod grids; // grids by calls and by their tables
 mod ground;
 mod searches;
-mod tables;
+mod table_steps;
 mod texts;
 mod verdicts; // route checks
 mod walks; // paths
 
-use answers::Tally;
 use grid::Grid;
 use std::io::Read;
+use tallies::Tally;
 
 // The grid in hand, its flag, what was counted of each kind of answer, and the differences.
 #[derive(Clone, Copy)]
@@ -49,21 +49,21 @@ fn added(rt: &impl Print, run: Run, y: Tally) -> Run {
 
 // A step of the tables: what it makes of the grid in hand, and its questions.
 fn stepped(rt: &impl Print, run: Run, s: &[u8]) -> Run {
-    let diagonal = tables::turned(s, run.diagonal);
-    let change = tables::call(s, run.grid, diagonal);
+    let diagonal = table_steps::turned(s, run.diagonal);
+    let change = table_steps::call(s, run.grid, diagonal);
     let g = change.grid;
-    let mut next = added(rt, run, tables::compare(s, run.grid, change));
+    let mut next = added(rt, run, table_steps::compare(s, run.grid, change));
     next.grid = g;
     next.diagonal = diagonal;
-    let cells = tables::after_changes(s);
-    let asked = added(rt, next, tables::asked(g, diagonal, 10, 10, cells));
-    let reaches = tables::after_cells(cells);
-    added(rt, asked, tables::asked(g, diagonal, 11, 9, reaches))
+    let cells = table_steps::after_changes(s);
+    let asked = added(rt, next, table_steps::asked(g, diagonal, 10, 10, cells));
+    let reaches = table_steps::after_cells(cells);
+    added(rt, asked, table_steps::asked(g, diagonal, 11, 9, reaches))
 }
 
 // A grid, which is then the one in hand.
 fn gridded(rt: &impl Print, run: Run, g: Grid) -> Run {
-    let mut next = added(rt, run, answers::one(12, 0));
+    let mut next = added(rt, run, tallies::one(12, 0));
     next.grid = g;
     next
 }
@@ -74,7 +74,7 @@ fn searched(rt: &impl Print, run: Run, s: &[u8]) -> Run {
     match kind {
         0 => gridded(rt, run, searches::by_calls(s)),
         1 => gridded(rt, run, searches::by_tables(s)),
-        _ => added(rt, run, answers::one(13, searches::replay(s, run.grid))),
+        _ => added(rt, run, tallies::one(13, searches::replay(s, run.grid))),
     }
 }
 
@@ -82,10 +82,10 @@ fn searched(rt: &impl Print, run: Run, s: &[u8]) -> Run {
 fn alone(kind: u8, s: &[u8]) -> Tally {
     match kind {
         1 => ground::replay(s),
-        4 => answers::one(14, walks::replay(s)),
-        5 => answers::one(15, verdicts::replay(s)),
-        6 => answers::one(16, texts::replay(s)),
-        _ => answers::one(0, 1),
+        4 => tallies::one(14, walks::replay(s)),
+        5 => tallies::one(15, verdicts::replay(s)),
+        6 => tallies::one(16, texts::replay(s)),
+        _ => tallies::one(0, 1),
     }
 }
 
@@ -133,7 +133,7 @@ fn tell(rt: &impl Print, run: Run) {
 }
 
 fn main(rt: HostRuntime) {
-    examples::run(&rt);
+    run_examples::run(&rt);
     let run = every_block(&rt, &mut rt.stdin());
     tell(&rt, run);
 }

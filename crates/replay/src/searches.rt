@@ -1,7 +1,7 @@
 // Blocks of grids and of searches on them. Their form stands at the head of oracle/tools/src/bin/searches.rs.
 ghost use Rattle.std.specs.Prelude.{◌≡◌, length};
 
-use super::{answers, grids};
+use super::{grids, tallies};
 use costs::Settings;
 use finder::{Answer, Outcome};
 use grid::Grid;
@@ -23,15 +23,15 @@ pub fn by_calls(s: &[u8]) -> Grid {
     let diagonal = lists::u8_at(s, 3) == 1;
     let at = 6 + (lists::u16_at(s, 4) as usize + 7) / 8;
     let g = first(s, diagonal, lists::u8_at(s, at) == 1);
-    let edits = answers::rest(s, at + 1);
+    let edits = tallies::rest(s, at + 1);
     grids::with_records(0, g, diagonal, edits, lists::u16_at(edits, 0) as usize)
 }
 
 pub fn by_tables(s: &[u8]) -> Grid {
     let mut g = grids::blank(lists::u16_at(s, 1) as usize, lists::u16_at(s, 3) as usize);
     g.dirty = lists::u8_at(s, 5) == 1;
-    let count = 5 * answers::count_at(s, 6, 4096);
-    grids::with_records(2, g, true, answers::rest(s, 6), count)
+    let count = 5 * tallies::count_at(s, 6, 4096);
+    grids::with_records(2, g, true, tallies::rest(s, 6), count)
 }
 
 // ---- searches
@@ -98,43 +98,43 @@ pub fn search(
 fn outcome_wrong(o: Outcome, s: &[u8]) -> u64 {
     match o {
         Outcome::Found(n, cost) => {
-            answers::byte_wrong(0, s, 0)
-                | answers::unequal(n as u64, lists::u16_at(s, 13) as u64)
-                | answers::unequal(cost, lists::u32_at(s, 9) as u64)
+            tallies::byte_wrong(0, s, 0)
+                | tallies::unequal(n as u64, lists::u16_at(s, 13) as u64)
+                | tallies::unequal(cost, lists::u32_at(s, 9) as u64)
         }
-        Outcome::Refused(r) => answers::refused_wrong(r, s),
+        Outcome::Refused(r) => tallies::refused_wrong(r, s),
     }
 }
 
 // 1 where the answer, or its pops, differs from the one that s begins with, and 1 for each place of the output that does.
 fn compared(a: Answer, s: &[u8], out: &[i32]) -> u64 {
     let o = a.outcome;
-    let pops = answers::unequal(a.pops as u64, lists::u32_at(s, 5) as u64);
-    let unlike = answers::unlike(answers::rest(s, 13), out);
+    let pops = tallies::unequal(a.pops as u64, lists::u32_at(s, 5) as u64);
+    let unlike = tallies::unlike(tallies::rest(s, 13), out);
     (pops | outcome_wrong(o, s)).wrapping_add(unlike)
 }
 
 fn untouched() -> [i32; 8200]
     ensures { 8200 ≡ length result }
 {
-    [answers::UNTOUCHED; 8200]
+    [tallies::UNTOUCHED; 8200]
 }
 
 // The search that the block asks for, with the goals' numbers lent and as much of the output as the list says.
 pub fn replay(s: &[u8], g: Grid) -> u64 {
-    let room = answers::room_at(s, 20, 4097);
-    let count = answers::count_at(s, 28, 200);
-    let goals = answers::numbers(answers::rest(s, 28), count);
+    let room = tallies::room_at(s, 20, 4097);
+    let count = tallies::count_at(s, 28, 200);
+    let goals = tallies::numbers(tallies::rest(s, 28), count);
     let mut out = untouched();
     let end = 2 * room;
     let a = search(
         lists::u8_at(s, 1),
         g,
         settings(s),
-        answers::point_at(s, 24),
-        answers::point_at(s, 30),
+        tallies::point_at(s, 24),
+        tallies::point_at(s, 30),
         &goals[..count],
         &mut out[..end],
     );
-    compared(a, answers::rest(s, 30 + 2 * count), &out)
+    compared(a, tallies::rest(s, 30 + 2 * count), &out)
 }

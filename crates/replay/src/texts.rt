@@ -2,7 +2,7 @@
 // Their form stands at the head of oracle/tools/src/bin/texts.rs.
 ghost use Rattle.std.specs.Prelude.{◌≡◌, ◌≤◌, length, take};
 
-use super::answers;
+use super::tallies;
 use floors::{MapRead, Put};
 use grid::Outcome;
 
@@ -13,7 +13,7 @@ fn unlike(a: &[u8], b: &[u8]) -> u64 {
     }
     let mut wrong: u64 = 0;
     for (i, v) in a.iter().enumerate() {
-        wrong = wrong.wrapping_add(answers::byte_wrong(*v, b, i));
+        wrong = wrong.wrapping_add(tallies::byte_wrong(*v, b, i));
     }
     wrong
 }
@@ -62,5 +62,5 @@ pub fn replay(s: &[u8]) -> u64 {
         return 1;
     }
     let text = &s[2..to];
-    printed_wrong(text, answers::rest(s, to)).wrapping_add(rewritten(text))
+    printed_wrong(text, tallies::rest(s, to)).wrapping_add(rewritten(text))
 }

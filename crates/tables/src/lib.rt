@@ -16,9 +16,9 @@ pub fn new(
     parent: &mut [u16],
     rank: &mut [u8],
 )
-    requires { Sides w h × Room w h (record { blocked = blocked.now; masks = neighbours.old; forced = forced.old; parent = parent.old; rank = rank.old; dirty = false }) }
-    ensures { record { blocked = blocked.exit.now; masks = neighbours.new; forced = forced.new; parent = parent.new; rank = rank.new; dirty = false }
-        ≡ new_of w h (record { blocked = blocked.entry.now; masks = neighbours.old; forced = forced.old; parent = parent.old; rank = rank.old; dirty = false }) }
+    requires { Sides w h × Room w h (record { blocked = blocked.old; masks = neighbours.old; forced = forced.old; parent = parent.old; rank = rank.old; dirty = false }) }
+    ensures { record { blocked = blocked.new; masks = neighbours.new; forced = forced.new; parent = parent.new; rank = rank.new; dirty = false }
+        ≡ new_of w h (record { blocked = blocked.old; masks = neighbours.old; forced = forced.old; parent = parent.old; rank = rank.old; dirty = false }) }
 {
     let n = w * h;
     fills::fill_zero(blocked, n);
@@ -43,9 +43,9 @@ pub fn edit(
     y: usize,
     b: bool,
 ) -> bool
-    requires { Within w h x y × Room w h (record { blocked = blocked.now; masks = neighbours.old; forced = forced.old; parent = parent.old; rank = rank.old; dirty = dirty }) × Forest 200 (w * h) parent.old rank.old }
-    ensures { record { blocked = blocked.exit.now; masks = neighbours.new; forced = forced.new; parent = parent.new; rank = rank.new; dirty = result }
-        ≡ edit_of w h diagonal (record { blocked = blocked.entry.now; masks = neighbours.old; forced = forced.old; parent = parent.old; rank = rank.old; dirty = dirty }) x y b }
+    requires { Within w h x y × Room w h (record { blocked = blocked.old; masks = neighbours.old; forced = forced.old; parent = parent.old; rank = rank.old; dirty = dirty }) × Forest 200 (w * h) parent.old rank.old }
+    ensures { record { blocked = blocked.new; masks = neighbours.new; forced = forced.new; parent = parent.new; rank = rank.new; dirty = result }
+        ≡ edit_of w h diagonal (record { blocked = blocked.old; masks = neighbours.old; forced = forced.old; parent = parent.old; rank = rank.old; dirty = dirty }) x y b }
 {
     let i = y * w + x;
     if refresh::blocks_free(blocked, i, b) {

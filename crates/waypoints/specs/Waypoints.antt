@@ -15,7 +15,7 @@ use Rattle.grid.specs.Grids.{legal_of}
 abbrev pub ground_of : Grid → Ground
 ground_of g = lent_ground g.width g.height g.blocked g.neighbours g.forced
 
--- the single_goal search, exact or approximate
+-- the single-goal search, exact or approximate
 unfoldable pub single_of : Grid → Settings → Lengths → Bool → Point → Point → Reply
 single_of g s l approximate start goal = cond (legal_of g) (F.single_of (ground_of g) g.parent s l approximate start goal) (refused State 0)
 

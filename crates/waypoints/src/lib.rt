@@ -61,7 +61,7 @@ pub fn get_waypoints_single_goal(
 }
 
 // The waypoints from a start to one of several goals, given as pairs. It asks no component, so a start outside the grid may search.
-// Refuses STATE, SETTING, GOALS, POINT, then as the single_goal search does, but never NO_ROUTE.
+// Refuses STATE, SETTING, GOALS, POINT, then as the single-goal search does, but never NO_ROUTE.
 pub fn get_waypoints_multiple_goals(
     number: &mut [u32],
     place: &mut [u32],

@@ -1,5 +1,5 @@
 // Document 01's "Run" paragraph: each example is run, and what it gives is printed beside its name.
-use super::{blocks, ground, searches, tables};
+use super::{blocks, ground, searches, table_steps};
 use costs::Settings;
 use finder::Outcome;
 use grid::Grid;
@@ -61,7 +61,7 @@ fn say_component(rt: &impl Print, name: &[u8], g: Grid, p: Point) {
     blocks::say(
         rt,
         name,
-        tables::component_told(grid::get_component(g, p), p),
+        table_steps::component_told(grid::get_component(g, p), p),
     );
 }
 
@@ -84,7 +84,7 @@ fn blocked_again(rt: &impl Print) {
 fn size(rt: &impl Print, name: &[u8], width: usize) {
     let made = grid::new(width, 1);
     let o = made.outcome;
-    blocks::say(rt, name, tables::outcome_told(o, at(0)) as u64);
+    blocks::say(rt, name, table_steps::outcome_told(o, at(0)) as u64);
 }
 
 fn sizes(rt: &impl Print) {

@@ -2,8 +2,8 @@
 // Their form stands at the head of oracle/tools/src/bin/tables.rs.
 ghost use Rattle.std.specs.Prelude.{◌≤◌};
 
-use super::answers::Tally;
-use super::{answers, grids};
+use super::tallies::Tally;
+use super::{grids, tallies};
 use grid::{Change, Component, Grid, Mask, Outcome, Verdict};
 use points::{Direction, Point, Refusal};
 
@@ -28,7 +28,7 @@ fn started(s: &[u8], before: Grid) -> Grid {
 // The tables after a step: the changes, and the mark.
 fn told(s: &[u8], before: Grid) -> Grid {
     let g = started(s, before);
-    let changes = answers::rest(s, 8);
+    let changes = tallies::rest(s, 8);
     let count = lists::u16_at(changes, 0) as usize;
     let mut want = grids::with_records(1, g, true, changes, count);
     want.dirty = lists::u8_at(s, 5) == 1;
@@ -87,7 +87,7 @@ fn tables_unlike(a: Grid, b: Grid, n: usize) -> u64
 
 // A refusal as the list counts down from 65536: POINT, STATE, and any other.
 fn refused_told(r: Refusal, p: Point) -> u64 {
-    let number = answers::number_of(r, p);
+    let number = tallies::number_of(r, p);
     match number {
         14 => 65535,
         2 => 65534,
@@ -114,9 +114,9 @@ fn mask_told(m: Mask, p: Point) -> u64 {
 fn mask_wrong(m: Mask, p: Point, number: u64, r: &[u8], at: usize) -> u64 {
     let told = mask_told(m, p);
     if number < 65534 {
-        return answers::unequal(told, lists::u8_at(r, at) as u64);
+        return tallies::unequal(told, lists::u8_at(r, at) as u64);
     }
-    answers::unequal(told, number)
+    tallies::unequal(told, number)
 }
 
 fn masks_wrong(g: Grid, diagonal: bool, p: Point, number: u64, r: &[u8]) -> u64 {
@@ -131,10 +131,10 @@ fn masks_wrong(g: Grid, diagonal: bool, p: Point, number: u64, r: &[u8]) -> u64 
 
 // A question of ten bytes.
 fn cell_wrong(g: Grid, diagonal: bool, r: &[u8]) -> u64 {
-    let p = answers::point_at(r, 0);
+    let p = tallies::point_at(r, 0);
     let number = lists::u16_at(r, 4) as u64;
     let c = grid::get_component(g, p);
-    answers::unequal(component_told(c, p), number) | masks_wrong(g, diagonal, p, number, r)
+    tallies::unequal(component_told(c, p), number) | masks_wrong(g, diagonal, p, number, r)
 }
 
 // ---- questions who can reach whom
@@ -154,8 +154,8 @@ fn verdict_told(v: Verdict, bit: u8, start: Point, goal: Point) -> u8 {
         Verdict::Yes => bit,
         Verdict::No => 0,
         Verdict::Refused(r) => reach_refused(
-            answers::number_of(r, start),
-            answers::number_of(r, goal),
+            tallies::number_of(r, start),
+            tallies::number_of(r, goal),
         ),
     }
 }
@@ -174,8 +174,8 @@ fn verdict_wrong(v: Verdict, bit: u8, bits: u8, start: Point, goal: Point) -> u6
 
 // A question of nine bytes.
 fn reach_wrong(g: Grid, diagonal: bool, r: &[u8]) -> u64 {
-    let a = answers::point_at(r, 0);
-    let b = answers::point_at(r, 4);
+    let a = tallies::point_at(r, 0);
+    let b = tallies::point_at(r, 4);
     let bits = lists::u8_at(r, 8);
     verdict_wrong(grid::reachable(g, a, b), 1, bits, a, b)
         | verdict_wrong(grid::unreachable(g, a, b), 2, bits, a, b)
@@ -207,7 +207,7 @@ pub fn asked(g: Grid, diagonal: bool, place: usize, width: usize, s: &[u8]) -> T
     let mut at: usize = 2;
     let mut wrong: u64 = 0;
     for _ in 0..count {
-        let r = answers::rest(s, at);
+        let r = tallies::rest(s, at);
         wrong = wrong.wrapping_add(question_wrong(g, diagonal, width, r));
         at += width;
     }
@@ -220,12 +220,12 @@ pub fn asked(g: Grid, diagonal: bool, place: usize, width: usize, s: &[u8]) -> T
 
 // A step's questions of cells, after its changes.
 pub fn after_changes<'a>(s: &'a [u8]) -> &'a [u8] {
-    answers::rest(s, 10 + 5 * lists::u16_at(s, 8) as usize)
+    tallies::rest(s, 10 + 5 * lists::u16_at(s, 8) as usize)
 }
 
 // Its questions who can reach whom, after those of cells.
 pub fn after_cells<'a>(cells: &'a [u8]) -> &'a [u8] {
-    answers::rest(cells, 2 + 10 * lists::u16_at(cells, 0) as usize)
+    tallies::rest(cells, 2 + 10 * lists::u16_at(cells, 0) as usize)
 }
 
 // ---- steps
@@ -235,7 +235,7 @@ pub fn call(s: &[u8], g: Grid, diagonal: bool) -> Change {
     let kind = lists::u8_at(s, 0);
     match kind {
         0 => grid::new(lists::u8_at(s, 1) as usize, lists::u8_at(s, 2) as usize),
-        1 => grids::edit(g, diagonal, answers::rest(s, 1)),
+        1 => grids::edit(g, diagonal, tallies::rest(s, 1)),
         2 => grid::update(g, diagonal),
         3 => grid::generate_components(g, diagonal),
         5 => grids::kept(told(s, g)),
@@ -246,7 +246,7 @@ pub fn call(s: &[u8], g: Grid, diagonal: bool) -> Change {
 pub fn outcome_told(o: Outcome, p: Point) -> u8 {
     match o {
         Outcome::Done => 0,
-        Outcome::Refused(r) => answers::number_of(r, p),
+        Outcome::Refused(r) => tallies::number_of(r, p),
     }
 }
 
@@ -264,8 +264,8 @@ pub fn turned(s: &[u8], diagonal: bool) -> bool {
 // The outcome of a step, and every table after it.
 pub fn compare(s: &[u8], before: Grid, change: Change) -> Tally {
     let outcome = change.outcome;
-    let told_outcome = outcome_told(outcome, answers::small_point(s, 1));
-    let unlike = tables_unlike(change.grid, told(s, before), answers::count_at(s, 6, 4096));
-    let wrong = answers::byte_wrong(told_outcome, s, 4);
-    answers::one(9, wrong.wrapping_add(unlike))
+    let told_outcome = outcome_told(outcome, tallies::small_point(s, 1));
+    let unlike = tables_unlike(change.grid, told(s, before), tallies::count_at(s, 6, 4096));
+    let wrong = tallies::byte_wrong(told_outcome, s, 4);
+    tallies::one(9, wrong.wrapping_add(unlike))
 }
