@@ -25,6 +25,8 @@ WORD = re.compile(r"(?<![\w'-])[a-z][\w'-]*(?![\w'-])")
 USE = re.compile(r"\buse ([^\s;{]+)(?:\.\{([^;}]*)\})")
 # A name that is a tactic's word, and what it is called now. Fields of that name, and comments, keep it.
 TACTICS = {"ground": "lent_ground"}
+# Names that are English in a comment.
+ENGLISH = ("single-goal",)
 OLD = re.compile(r"[a-z][\w']*(?:[A-Z-]|_-)[\w'-]*")
 
 
@@ -89,19 +91,29 @@ def from_libraries(text):
 
 
 def clash(names):
-    """Names that would fall together, by file: two old ones, or an old one and a word that stands there."""
+    """Names that would fall together, by file: two old ones, or an old one and a declared one that stands there."""
+    declared = {
+        n
+        for path in files("crates", ".antt")
+        if is_lemmas(path)
+        for m in DECLARED.finditer(read(path))
+        for n in m[1].split()
+    }
     found = []
     for path in files("crates", ".antt", ".rt"):
         text = read(path)
-        words = set(WORD.findall(text))
-        bare = set(re.findall(r"(?<![\w'.-])[a-z][\w'-]*(?![\w'-])", text))
         lent = from_libraries(text)
+        # what the file declares or imports, and what stands in it outside comments
+        own = {n for m in DECLARED.finditer(text) for n in m[1].split()}
+        own |= {n.strip() for m in USE.finditer(text) if m[2] for n in m[2].split(",")}
+        code = re.sub(r"(?m)^\s*(--|//).*", "", text)
+        bare = set(re.findall(r"(?<![\w'.-])[a-z][\w'-]*(?![\w'-])", code))
         new = {}
-        for w in words:
+        for w in own:
             if w in names and w not in lent:
                 new.setdefault(snake(w), set()).add(w)
         for n, old in new.items():
-            if len(old) > 1 or (n in bare and path.endswith(".antt")):
+            if len(old) > 1 or (n in bare and n in declared and path.endswith(".antt")):
                 found.append((path, n, sorted(old), n in bare))
     return found
 
@@ -133,11 +145,9 @@ def turn(text, names):
         w = m[0]
         return snake(w) if w in names and w not in lent else w
 
-    # in a comment a word with a dash is English
     def line(m):
-        if m[0].lstrip().startswith(("--", "//")):
-            return WORD.sub(lambda w: w[0] if "-" in w[0] else word(w), m[0])
-        return WORD.sub(word, m[0])
+        english = ENGLISH if m[0].lstrip().startswith(("--", "//")) else ()
+        return WORD.sub(lambda w: w[0] if w[0] in english else word(w), m[0])
 
     return re.sub(r"[^\n]+", line, text)
 
@@ -199,7 +209,7 @@ def main(argv):
             f"{path}: {', '.join(old)} would be {new}"
             + (", which stands there" if stands else "")
         )
-    if bad and argv != ["--force"]:
+    if bad:
         return 1
     n = 0
     for path in files("crates", ".antt", ".rt", ".edit"):
