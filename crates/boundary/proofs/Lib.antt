@@ -1,4 +1,2 @@
 mod Lent
 mod Searches
-mod Checks
-mod Prints

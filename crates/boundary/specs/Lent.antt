@@ -1,8 +1,11 @@
 -- The calls on tables that the host lends: the tests before each, what it answers, and what it leaves in them. Assumes nothing: these are definitions.
-use Rattle.std.specs.Prelude.{Bool, not, cond, ◌&&◌, List, ℕ, ◌+◌, ◌*◌, ◌%◌, ltb, leb, eqb, length, get_or}
+use Rattle.std.specs.Prelude.{Bool, not, cond, ◌&&◌, List, ℕ, ◌+◌, ◌*◌, ◌%◌, ltb, leb, length, get_or}
+use Rattle.std.specs.declared.result.Result.{Result}
+use Rattle.std.specs.declared.result.Result.TheVariants.{Ok, Err}
 use Rattle.points.specs.Plane.{legal}
 use Rattle.points.specs.Refusals.{told_of}
 use Rattle.points.specs.declared.Point.{Point}
+use Rattle.points.specs.declared.Refusal.{Refusal}
 use Rattle.points.specs.declared.Refusal.TheVariants.{Size, State, BadPoint}
 use Rattle.masks.specs.Masks.{pruned_in}
 use Rattle.components.specs.Components.{Links, root_of}
@@ -103,44 +106,52 @@ unfoldable pub component_lent : ℕ → ℕ → List ℕ → List ℕ → Point 
 component_lent w h p k q =
     cond (links_ok w h p k) (cond (ltb (cell_of w h q) (w * h)) (root_of p (cell_of w h q)) (refused_as (BadPoint q))) (refused_as State)
 
--- STATE, then POINT for a point that is no cell; else 0
-unfoldable pub located_of : ℕ → ℕ → List ℕ → List ℕ → List ℕ → Point → ℕ
-located_of w h e p k q = cond (ground_ok w h e p k) (cond (ltb (cell_of w h q) (w * h)) 0 (refused_as (BadPoint q))) (refused_as State)
+-- POINT for a point that is no cell; else its cell
+abbrev pub inside_of : ℕ → ℕ → Point → Result ℕ Refusal
+inside_of w h q = cond (ltb (cell_of w h q) (w * h)) (Ok (cell_of w h q)) (Err (BadPoint q))
 
--- a refusal, or the answer n
-abbrev pub after : ℕ → ℕ → ℕ
-after t n = cond (eqb t 0) n t
+-- STATE, then POINT for a point that is no cell; else its cell
+unfoldable pub located_of : ℕ → ℕ → List ℕ → List ℕ → List ℕ → Point → Result ℕ Refusal
+located_of w h e p k q = cond (ground_ok w h e p k) (inside_of w h q) (Err State)
 
--- a refusal, or yes and no
-abbrev pub told : ℕ → Bool → ℕ
-told t b = after t (mark_of b)
+-- a refusal, or the answer f of a cell
+abbrev pub after : Result ℕ Refusal → (ℕ → ℕ) → ℕ
+after (Ok i) f = f i
+after (Err r) f = refused_as r
 
 -- whether the cell is blocked
 unfoldable pub blocked_lent : ℕ → ℕ → List ℕ → List ℕ → List ℕ → Point → ℕ
-blocked_lent w h b p k q = told (located_of w h b p k q) (flag_of (get_or b (cell_of w h q) 0))
+blocked_lent w h b p k q = after (located_of w h b p k q) (λ i. mark_of (flag_of (get_or b i 0)))
 
 -- the mask that a table holds of a cell, and the pruned mask for travel d, read modulo 8
 unfoldable pub mask_lent : ℕ → ℕ → List ℕ → List ℕ → List ℕ → Point → ℕ
-mask_lent w h e p k q = after (located_of w h e p k q) (get_or e (cell_of w h q) 0)
+mask_lent w h e p k q = after (located_of w h e p k q) (λ i. get_or e i 0)
 
 unfoldable pub pruned_lent : ℕ → ℕ → Bool → List ℕ → List ℕ → List ℕ → Point → ℕ → ℕ
-pruned_lent w h diagonal e p k q d = after (located_of w h e p k q) (pruned_in diagonal (d % 8) (get_or e (cell_of w h q) 0))
+pruned_lent w h diagonal e p k q d = after (located_of w h e p k q) (λ i. pruned_in diagonal (d % 8) (get_or e i 0))
 
--- STATE, then POINT for coordinates out of range, with 256 more for the start and 512 more for the goal; else 0
-unfoldable pub asked_of : ℕ → ℕ → List ℕ → List ℕ → Point → Point → ℕ
+-- STATE, then POINT for coordinates out of range, with 256 more for the start and 512 more for the goal, as they are answered; else the two cells
+unfoldable pub asked_of : ℕ → ℕ → List ℕ → List ℕ → Point → Point → Result (ℕ × ℕ) ℕ
 asked_of w h p k start goal =
     cond (links_ok w h p k)
-    (cond (legal start) (cond (legal goal) 0 (4294967296 * ((told_of (BadPoint goal)).number + 512))) (4294967296 * ((told_of (BadPoint start)).number + 256)))
-    (refused_as State)
+    (cond (legal start)
+    (cond (legal goal) (Ok (cell_of w h start, cell_of w h goal)) (Err (4294967296 * ((told_of (BadPoint goal)).number + 512))))
+    (Err (4294967296 * ((told_of (BadPoint start)).number + 256))))
+    (Err (refused_as State))
+
+-- a refusal, or yes and no by f of the two cells
+abbrev pub told : Result (ℕ × ℕ) ℕ → (ℕ → ℕ → Bool) → ℕ
+told (Ok (a, c)) f = mark_of (f a c)
+told (Err n) f = n
 
 unfoldable pub reachable_lent : ℕ → ℕ → List ℕ → List ℕ → Point → Point → ℕ
-reachable_lent w h p k start goal = told (asked_of w h p k start goal) (reachable_of (w * h) p (cell_of w h start) (cell_of w h goal))
+reachable_lent w h p k start goal = told (asked_of w h p k start goal) (λ a c. reachable_of (w * h) p a c)
 
 unfoldable pub unreachable_lent : ℕ → ℕ → List ℕ → List ℕ → Point → Point → ℕ
-unreachable_lent w h p k start goal = told (asked_of w h p k start goal) (not (reachable_of (w * h) p (cell_of w h start) (cell_of w h goal)))
+unreachable_lent w h p k start goal = told (asked_of w h p k start goal) (λ a c. not (reachable_of (w * h) p a c))
 
 unfoldable pub near_lent : ℕ → ℕ → Bool → List ℕ → List ℕ → Point → Point → ℕ
-near_lent w h diagonal p k start goal = told (asked_of w h p k start goal) (neighbours_reachable_of w h diagonal p (cell_of w h start) (cell_of w h goal))
+near_lent w h diagonal p k start goal = told (asked_of w h p k start goal) (λ a c. neighbours_reachable_of w h diagonal p a c)
 
 unfoldable pub far_lent : ℕ → ℕ → Bool → List ℕ → List ℕ → Point → Point → ℕ
-far_lent w h diagonal p k start goal = told (asked_of w h p k start goal) (neighbours_unreachable_of w h diagonal p (cell_of w h start) (cell_of w h goal))
+far_lent w h diagonal p k start goal = told (asked_of w h p k start goal) (λ a c. neighbours_unreachable_of w h diagonal p a c)

@@ -10,8 +10,10 @@ ghost use Rattle.finder.specs.Find.{lent_ground, lengths_of, answer_of, out_afte
 ghost use Rattle.packing.specs.Packing.{flag_of, point_of, heading_packed, measure_packed, settings_of};
 ghost use Rattle.replies.specs.Replies.{route_of};
 ghost use Rattle.boundary.specs.Searches.{single_lent, several_lent};
-ghost use Rattle.boundary.specs.Lent.{links_ok, ground_ok, covers_ok, held_of, roomy_of, tables, left, left_links, new_lent, set_lent, rebuild_lent, update_lent, component_lent, located_of, blocked_lent, mask_lent, pruned_lent, asked_of, reachable_lent, unreachable_lent, near_lent, far_lent};
+ghost use Rattle.cells.specs.Cells.{Sides};
+ghost use Rattle.boundary.specs.Lent.{links_ok, ground_ok, covers_ok, held_of, roomy_of, tables, left, left_links, new_lent, set_lent, rebuild_lent, update_lent, component_lent, inside_of, located_of, blocked_lent, mask_lent, pruned_lent, asked_of, reachable_lent, unreachable_lent, near_lent, far_lent};
 
+use cells::{Size, Spot};
 use costs::Settings;
 use finder::Answer;
 use packing::{direction, distance, flag, mark, point, refused_as, scaled_distance, settings};
@@ -72,46 +74,34 @@ pub fn barnsling_scaled_distance(
 }
 
 // Whether the sides are in range, parents and ranks have a place for each cell, and the state is legal.
+#[tactic(auto, using(std::proofs::Common::tests), unfolding(crate::specs::Lent::links_ok))]
 fn linked(parent: &[u16], rank: &[u8], w: usize, h: usize) -> bool
     ensures { result ≡ links_ok w h parent.now rank.now }
 {
-    if !cells::sized(w, h) {
-        return false;
-    }
-    let n = w * h;
-    if parent.len() < n {
-        return false;
-    }
-    if rank.len() < n {
-        return false;
-    }
-    states::state_ok(parent, rank, n)
+    cells::sized(w, h)
+        && w * h <= parent.len()
+        && w * h <= rank.len()
+        && states::state_ok(parent, rank, w * h)
 }
 
 // `linked`, and whether a table has a place for each cell.
+#[tactic(auto, using(std::proofs::Common::tests), unfolding(crate::specs::Lent::ground_ok))]
 fn grounded(table: &[u8], parent: &[u16], rank: &[u8], w: usize, h: usize) -> bool
     ensures { result ≡ ground_ok w h table.now parent.now rank.now }
 {
-    if !linked(parent, rank, w, h) {
-        return false;
-    }
-    w * h <= table.len()
+    linked(parent, rank, w, h) && w * h <= table.len()
 }
 
 // Whether the tables of the cells have a place for each of n cells.
+#[tactic(auto, using(std::proofs::Common::tests), unfolding(crate::specs::Lent::covers_ok))]
 fn covered(blocked: &[u8], neighbours: &[u8], forced: &[u8], n: usize) -> bool
     ensures { result ≡ covers_ok n blocked.now neighbours.now forced.now }
 {
-    if blocked.len() < n {
-        return false;
-    }
-    if neighbours.len() < n {
-        return false;
-    }
-    n <= forced.len()
+    n <= blocked.len() && n <= neighbours.len() && n <= forced.len()
 }
 
 // Whether five lent tables are a grid: STATE is refused exactly where they are not.
+#[tactic(auto, using(std::proofs::Common::tests), unfolding(crate::specs::Lent::held_of))]
 fn held(
     blocked: &[u8],
     neighbours: &[u8],
@@ -123,13 +113,11 @@ fn held(
 ) -> bool
     ensures { result ≡ held_of w h blocked.now neighbours.now forced.now parent.now rank.now }
 {
-    if !linked(parent, rank, w, h) {
-        return false;
-    }
-    covered(blocked, neighbours, forced, w * h)
+    linked(parent, rank, w, h) && covered(blocked, neighbours, forced, w * h)
 }
 
 // Whether five lent tables have a place for each of n cells.
+#[tactic(auto, using(std::proofs::Common::tests), unfolding(crate::specs::Lent::roomy_of))]
 fn roomy(
     blocked: &[u8],
     neighbours: &[u8],
@@ -140,16 +128,11 @@ fn roomy(
 ) -> bool
     ensures { result ≡ roomy_of n blocked.now neighbours.now forced.now parent.now rank.now }
 {
-    if parent.len() < n {
-        return false;
-    }
-    if rank.len() < n {
-        return false;
-    }
-    covered(blocked, neighbours, forced, n)
+    n <= parent.len() && n <= rank.len() && covered(blocked, neighbours, forced, n)
 }
 
 // A new grid in lent tables: 0. Refuses SIZE, then STATE where a table is too short.
+#[tactic(auto, using(std::proofs::Common::tests), unfolding(crate::specs::Lent::new_lent))]
 pub fn barnsling_new(
     blocked: &mut [u8],
     neighbours: &mut [u8],
@@ -168,11 +151,12 @@ pub fn barnsling_new(
     if !roomy(blocked, neighbours, forced, parent, rank, w * h) {
         return refused_as(Refusal::State);
     }
-    tables::new(w, h, blocked, neighbours, forced, parent, rank);
+    tables::new(Size { w, h }, blocked, neighbours, forced, parent, rank);
     0
 }
 
 // Blocks or frees the cell (x, y): the dirty mark afterwards, 0 or 1. Refuses STATE, then POINT.
+#[tactic(auto, using(std::proofs::Common::tests), unfolding(crate::specs::Lent::set_lent))]
 pub fn barnsling_set(
     blocked: &mut [u8],
     neighbours: &mut [u8],
@@ -193,16 +177,14 @@ pub fn barnsling_set(
     if !held(blocked, neighbours, forced, parent, rank, w, h) {
         return refused_as(Refusal::State);
     }
-    let p = point(x, y);
-    let i = cells::cell_of(w, h, p);
-    if w * h <= i {
-        return refused_as(Refusal::BadPoint(p));
+    if let Err(r) = inside(w, h, point(x, y)) {
+        return refused_as(r);
     }
     let cx = cells::place(x, w);
     let cy = cells::place(y, h);
+    let at = Spot { w, h, x: cx, y: cy };
     let d = tables::edit(
-        w,
-        h,
+        at,
         flag(diagonal),
         flag(dirty),
         blocked,
@@ -210,14 +192,13 @@ pub fn barnsling_set(
         forced,
         parent,
         rank,
-        cx,
-        cy,
         flag(b),
     );
     mark(d)
 }
 
 // The components anew from the blocked cells alone: 0, the dirty mark afterwards. Refuses STATE.
+#[tactic(auto, using(std::proofs::Common::tests), unfolding(crate::specs::Lent::rebuild_lent))]
 pub fn barnsling_rebuild(
     blocked: &[u8],
     parent: &mut [u16],
@@ -231,11 +212,12 @@ pub fn barnsling_rebuild(
     if !grounded(blocked, parent, rank, w, h) {
         return refused_as(Refusal::State);
     }
-    rebuilds::rebuild(w, h, flag(diagonal), blocked, parent, rank);
+    rebuilds::rebuild(Size { w, h }, flag(diagonal), blocked, parent, rank);
     0
 }
 
 // `barnsling_rebuild` where the grid is dirty: 0, the dirty mark afterwards. Refuses STATE.
+#[tactic(auto, using(std::proofs::Common::tests), unfolding(crate::specs::Lent::update_lent))]
 pub fn barnsling_update(
     blocked: &[u8],
     parent: &mut [u16],
@@ -250,52 +232,76 @@ pub fn barnsling_update(
     if !grounded(blocked, parent, rank, w, h) {
         return refused_as(Refusal::State);
     }
-    rebuilds::update(w, h, flag(diagonal), flag(dirty), blocked, parent, rank);
+    rebuilds::update(
+        Size { w, h },
+        flag(diagonal),
+        flag(dirty),
+        blocked,
+        parent,
+        rank,
+    );
     0
 }
 
 // The component of the cell (x, y), as the Rust numbers it. Refuses STATE, then POINT.
+#[tactic(auto, using(std::proofs::Common::tests), unfolding(crate::specs::Lent::component_lent))]
 pub fn barnsling_component(parent: &[u16], rank: &[u8], w: usize, h: usize, x: i32, y: i32) -> u64
     ensures { result ≡ component_lent w h parent.now rank.now (point_of x y) }
 {
     if !linked(parent, rank, w, h) {
         return refused_as(Refusal::State);
     }
-    let p = point(x, y);
-    let i = cells::cell_of(w, h, p);
-    if w * h <= i {
-        return refused_as(Refusal::BadPoint(p));
+    match inside(w, h, point(x, y)) {
+        Ok(i) => components::find(parent, rank, w * h, i) as u64,
+        Err(r) => refused_as(r),
     }
-    components::find(parent, rank, w * h, i) as u64
 }
 
-// STATE, also of a table that is too short, then POINT for a point that is no cell; else 0.
-fn located(table: &[u8], parent: &[u16], rank: &[u8], w: usize, h: usize, p: Point) -> u64
+// The cell of a point. Refuses POINT for a point that is no cell.
+#[tactic(auto, using(std::proofs::Common::tests))]
+fn inside(w: usize, h: usize, p: Point) -> Result<usize, Refusal>
+    requires { Sides w h }
+    ensures { result ≡ inside_of w h p }
+{
+    let i = cells::cell_of(w, h, p);
+    if i < w * h {
+        Ok(i)
+    } else {
+        Err(Refusal::BadPoint(p))
+    }
+}
+
+// The cell of a point of a lent grid. Refuses STATE, also of a table that is too short, then POINT for a point that is no cell.
+#[tactic(auto, using(std::proofs::Common::tests), unfolding(crate::specs::Lent::located_of))]
+fn located(
+    table: &[u8],
+    parent: &[u16],
+    rank: &[u8],
+    w: usize,
+    h: usize,
+    p: Point,
+) -> Result<usize, Refusal>
     ensures { result ≡ located_of w h table.now parent.now rank.now p }
 {
     if !grounded(table, parent, rank, w, h) {
-        return refused_as(Refusal::State);
+        return Err(Refusal::State);
     }
-    let i = cells::cell_of(w, h, p);
-    if w * h <= i {
-        return refused_as(Refusal::BadPoint(p));
-    }
-    0
+    inside(w, h, p)
 }
 
 // What a table holds of a cell. Refuses STATE, then POINT.
+#[tactic(auto, using(std::proofs::Common::tests), unfolding(crate::specs::Lent::mask_lent))]
 fn mask_at(table: &[u8], parent: &[u16], rank: &[u8], w: usize, h: usize, p: Point) -> u64
     ensures { result ≡ mask_lent w h table.now parent.now rank.now p }
 {
-    let t = located(table, parent, rank, w, h, p);
-    if t != 0 {
-        return t;
+    match located(table, parent, rank, w, h, p) {
+        Ok(i) => u64::from(table[i]),
+        Err(r) => refused_as(r),
     }
-    let i = cells::cell_of(w, h, p);
-    table[i] as u64
 }
 
 // Whether the cell (x, y) is blocked: 1 or 0. Refuses STATE, then POINT.
+#[tactic(auto, using(std::proofs::Common::tests), unfolding(crate::specs::Lent::blocked_lent))]
 pub fn barnsling_blocked_at(
     blocked: &[u8],
     parent: &[u16],
@@ -307,12 +313,10 @@ pub fn barnsling_blocked_at(
 ) -> u64
     ensures { result ≡ blocked_lent w h blocked.now parent.now rank.now (point_of x y) }
 {
-    let p = point(x, y);
-    let t = located(blocked, parent, rank, w, h, p);
-    if t != 0 {
-        return t;
+    match located(blocked, parent, rank, w, h, point(x, y)) {
+        Ok(i) => mark(flag(blocked[i])),
+        Err(r) => refused_as(r),
     }
-    mark(flag(blocked[cells::cell_of(w, h, p)]))
 }
 
 // Which neighbours of the cell (x, y) are inside and free, a bit for each direction: below 256. Refuses STATE, then POINT.
@@ -347,6 +351,7 @@ pub fn barnsling_forced_at(
 
 // The directions that a search follows from the cell (x, y), having come to it in a direction, read modulo 8: below 256.
 // Refuses STATE, then POINT.
+#[tactic(auto, using(std::proofs::Common::tests), unfolding(crate::specs::Lent::pruned_lent))]
 pub fn barnsling_pruned_at(
     neighbours: &[u8],
     parent: &[u16],
@@ -360,32 +365,38 @@ pub fn barnsling_pruned_at(
 ) -> u64
     ensures { result ≡ pruned_lent w h (flag_of diagonal) neighbours.now parent.now rank.now (point_of x y) direction }
 {
-    let p = point(x, y);
-    let t = located(neighbours, parent, rank, w, h, p);
-    if t != 0 {
-        return t;
+    match located(neighbours, parent, rank, w, h, point(x, y)) {
+        Ok(i) => u64::from(masks::pruned_mask(flag(diagonal), direction, neighbours[i])),
+        Err(r) => refused_as(r),
     }
-    let m = neighbours[cells::cell_of(w, h, p)];
-    masks::pruned_mask(flag(diagonal), direction, m) as u64
 }
 
-// STATE, then POINT for coordinates out of range, the start's first; else 0.
-fn asked(parent: &[u16], rank: &[u8], w: usize, h: usize, start: Point, goal: Point) -> u64
+// The cells of the start and the goal of a question. Refuses STATE, then POINT for coordinates out of range, the start's first; each as it is answered.
+#[tactic(auto, using(std::proofs::Common::tests), unfolding(crate::specs::Lent::asked_of))]
+fn asked(
+    parent: &[u16],
+    rank: &[u8],
+    w: usize,
+    h: usize,
+    start: Point,
+    goal: Point,
+) -> Result<(usize, usize), u64>
     ensures { result ≡ asked_of w h parent.now rank.now start goal }
 {
     if !linked(parent, rank, w, h) {
-        return refused_as(Refusal::State);
+        return Err(refused_as(Refusal::State));
     }
     if !start.legal() {
-        return 4294967296 * 270;
+        return Err(4294967296 * 270);
     }
     if !goal.legal() {
-        return 4294967296 * 526;
+        return Err(4294967296 * 526);
     }
-    0
+    Ok((cells::cell_of(w, h, start), cells::cell_of(w, h, goal)))
 }
 
 // Whether two points share a component, 0 or 1: no where one is outside. Refuses STATE, then POINT.
+#[tactic(auto, using(std::proofs::Common::tests), unfolding(crate::specs::Lent::reachable_lent))]
 pub fn barnsling_reachable(
     parent: &[u16],
     rank: &[u8],
@@ -398,18 +409,14 @@ pub fn barnsling_reachable(
 ) -> u64
     ensures { result ≡ reachable_lent w h parent.now rank.now (point_of sx sy) (point_of gx gy) }
 {
-    let start = point(sx, sy);
-    let goal = point(gx, gy);
-    let t = asked(parent, rank, w, h, start, goal);
-    if t != 0 {
-        return t;
+    match asked(parent, rank, w, h, point(sx, sy), point(gx, gy)) {
+        Ok((a, c)) => mark(questions::reachable(parent, rank, w * h, a, c)),
+        Err(refused) => refused,
     }
-    let a = cells::cell_of(w, h, start);
-    let c = cells::cell_of(w, h, goal);
-    mark(questions::reachable(parent, rank, w * h, a, c))
 }
 
 // Whether they do not: yes where one is outside. Refuses STATE, then POINT.
+#[tactic(auto, using(std::proofs::Common::tests), unfolding(crate::specs::Lent::unreachable_lent))]
 pub fn barnsling_unreachable(
     parent: &[u16],
     rank: &[u8],
@@ -422,18 +429,14 @@ pub fn barnsling_unreachable(
 ) -> u64
     ensures { result ≡ unreachable_lent w h parent.now rank.now (point_of sx sy) (point_of gx gy) }
 {
-    let start = point(sx, sy);
-    let goal = point(gx, gy);
-    let t = asked(parent, rank, w, h, start, goal);
-    if t != 0 {
-        return t;
+    match asked(parent, rank, w, h, point(sx, sy), point(gx, gy)) {
+        Ok((a, c)) => mark(questions::unreachable(parent, rank, w * h, a, c)),
+        Err(refused) => refused,
     }
-    let a = cells::cell_of(w, h, start);
-    let c = cells::cell_of(w, h, goal);
-    mark(questions::unreachable(parent, rank, w * h, a, c))
 }
 
 // Whether some inside neighbour of the goal shares the start's component: yes where one is outside. Refuses STATE, then POINT.
+#[tactic(auto, using(std::proofs::Common::tests), unfolding(crate::specs::Lent::near_lent))]
 pub fn barnsling_neighbours_reachable(
     parent: &[u16],
     rank: &[u8],
@@ -447,18 +450,22 @@ pub fn barnsling_neighbours_reachable(
 ) -> u64
     ensures { result ≡ near_lent w h (flag_of diagonal) parent.now rank.now (point_of sx sy) (point_of gx gy) }
 {
-    let start = point(sx, sy);
-    let goal = point(gx, gy);
-    let t = asked(parent, rank, w, h, start, goal);
-    if t != 0 {
-        return t;
+    match asked(parent, rank, w, h, point(sx, sy), point(gx, gy)) {
+        Ok((a, c)) => mark(questions::neighbours_reachable(
+            w,
+            h,
+            flag(diagonal),
+            parent,
+            rank,
+            a,
+            c,
+        )),
+        Err(refused) => refused,
     }
-    let a = cells::cell_of(w, h, start);
-    let c = cells::cell_of(w, h, goal);
-    mark(questions::neighbours_reachable(w, h, flag(diagonal), parent, rank, a, c))
 }
 
 // Whether none does: yes, too, where one is outside. Refuses STATE, then POINT.
+#[tactic(auto, using(std::proofs::Common::tests), unfolding(crate::specs::Lent::far_lent))]
 pub fn barnsling_neighbours_unreachable(
     parent: &[u16],
     rank: &[u8],
@@ -472,17 +479,21 @@ pub fn barnsling_neighbours_unreachable(
 ) -> u64
     ensures { result ≡ far_lent w h (flag_of diagonal) parent.now rank.now (point_of sx sy) (point_of gx gy) }
 {
-    let start = point(sx, sy);
-    let goal = point(gx, gy);
-    let t = asked(parent, rank, w, h, start, goal);
-    if t != 0 {
-        return t;
+    match asked(parent, rank, w, h, point(sx, sy), point(gx, gy)) {
+        Ok((a, c)) => mark(questions::neighbours_unreachable(
+            w,
+            h,
+            flag(diagonal),
+            parent,
+            rank,
+            a,
+            c,
+        )),
+        Err(refused) => refused,
     }
-    let a = cells::cell_of(w, h, start);
-    let c = cells::cell_of(w, h, goal);
-    mark(questions::neighbours_unreachable(w, h, flag(diagonal), parent, rank, a, c))
 }
 
+#[tactic(auto, using(std::proofs::Common::tests), unfolding(crate::specs::Searches::single_lent))]
 fn single(
     blocked: &[u8],
     neighbours: &[u8],
@@ -530,6 +541,7 @@ fn single(
     )
 }
 
+#[tactic(auto, using(std::proofs::Common::tests), unfolding(crate::specs::Searches::several_lent))]
 fn several(
     blocked: &[u8],
     neighbours: &[u8],

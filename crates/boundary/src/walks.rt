@@ -4,7 +4,6 @@ ghost use Rattle.paths.specs.Walks.{path_answer, path_kept};
 ghost use Rattle.replies.specs.Replies.{written_reply, check_reply};
 ghost use Rattle.boundary.specs.Walks.{check_lent};
 
-use checks::Checked;
 use points::Refusal;
 use replies::{Check, Reply, checked, written};
 
@@ -18,6 +17,7 @@ pub fn barnsling_waypoints_to_path(list: &[i32], out: &mut [i32]) -> Reply
 
 // Whether every cell of the expanded walk after the first point is inside and free, 1 or 0; and the first bent leg, from 1, or 0, clear or not.
 // Refuses STATE, LIST, POINT.
+#[tactic(auto, using(std::proofs::Common::tests), unfolding(crate::specs::Walks::check_lent))]
 pub fn barnsling_check_route(
     blocked: &[u8],
     parent: &[u16],
@@ -29,7 +29,7 @@ pub fn barnsling_check_route(
     ensures { result ≡ check_reply (check_lent w h blocked.now parent.now rank.now list.now) }
 {
     if !super::grounded(blocked, parent, rank, w, h) {
-        return checked(Checked::Refused(Refusal::State));
+        return checked(Err(Refusal::State));
     }
     checked(checks::check_list(blocked, w, h, list))
 }

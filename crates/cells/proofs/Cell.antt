@@ -1,13 +1,11 @@
 -- Laws of cells' numbers.
 -- Assumes nothing.
 use Prim.Native.Nat.{ℕ, suc, ◌+◌, ◌-◌, ◌*◌, ◌/◌, ◌%◌, ◌≤◌, ◌<◌}
-use mathlib.Core.Path.{◌≡◌, refl, sym, ap}
-use mathlib.Core.Bool.{Bool, true, false, true≢false, cond, ◌&&◌}
+use mathlib.Core.Path.{◌≡◌, refl, sym, ap, ◌∙◌}
+use mathlib.Core.Bool.{Bool, true, false, cond, ◌&&◌}
 use mathlib.Core.Logic.{⊎_elim, ◌⊎◌, inl, inr}
 use lib.Dec.{ltb, leb}
-use lib.IntN.{ℤ, pos, negsuc, nat_abs}
-use lib.Signed.{lt_z}
-use borrow.Author.Tests.{le-leb, lt-leb, le-ltb, lt-ltb, ltb-true, leb-true, leb-false}
+use borrow.Author.Tests.{le-leb, lt-leb, lt-ltb, ltb-true, leb-true, leb-false}
 use Rattle.components.proofs.Loops.{and_true}
 use Rattle.cells.specs.Cells.{most_side, sized_of, Sides, Within, cell_at, cell_to, place_of, cell_of}
 use Rattle.points.specs.declared.Point.{Point}
@@ -27,23 +25,6 @@ pub cell_in : (w h p q : ℕ) → 1 ≤ p → p ≤ w → 1 ≤ q → q ≤ h �
 unfolding cell_at
 cell_in w h p q a b c d = simp (le-leb 1 p a, le-leb p w b, le-leb 1 q c, le-leb q h d)
 
--- and one that is not, told by the first test that it fails
-pub out_left : (w h p q : ℕ) → p < 1 → w * h ≡ cell_at w h p q
-unfolding cell_at
-out_left w h p q a = simp (lt-leb 1 p a)
-
-pub out_right : (w h p q : ℕ) → 1 ≤ p → w < p → w * h ≡ cell_at w h p q
-unfolding cell_at
-out_right w h p q a b = simp (le-leb 1 p a, lt-leb p w b)
-
-pub out_up : (w h p q : ℕ) → 1 ≤ p → p ≤ w → q < 1 → w * h ≡ cell_at w h p q
-unfolding cell_at
-out_up w h p q a b c = simp (le-leb 1 p a, le-leb p w b, lt-leb 1 q c)
-
-pub out_down : (w h p q : ℕ) → 1 ≤ p → p ≤ w → 1 ≤ q → h < q → w * h ≡ cell_at w h p q
-unfolding cell_at
-out_down w h p q a b c d = simp (le-leb 1 p a, le-leb p w b, le-leb 1 q c, lt-leb q h d)
-
 -- the neighbour's place, by the offsets that `points` gives
 pub cell_to_is : (w h x y d r s : ℕ) → d < 8 → r ≡ off_x (d % 8) → s ≡ off_y (d % 8) → cell_at w h (x + r) (y + s) ≡ cell_to w h x y d
 cell_to_is w h x y d r s l er es =
@@ -53,44 +34,20 @@ cell_to_is w h x y d r s l er es =
 pub inner_lt : (w h p q : ℕ) → 1 ≤ p → p ≤ w → 1 ≤ q → q ≤ h → (q - 1) * w + (p - 1) < w * h
 inner_lt w h p q a b c d = cell_lt w h (p - 1) (q - 1) (omega arith) (omega arith)
 
+-- the two answers of a neighbour's number
+pub next_in : (w h x y d r s : ℕ) → d < 8 → r ≡ off_x (d % 8) → s ≡ off_y (d % 8) → 1 ≤ x + r → x + r ≤ w → 1 ≤ y + s → y + s ≤ h
+    → ((y + s - 1) * w + (x + r - 1) ≡ cell_to w h x y d) × ((y + s - 1) * w + (x + r - 1) < w * h)
+next_in w h x y d r s l er es a b c e = (sym (cell_in w h (x + r) (y + s) a b c e) ∙ cell_to_is w h x y d r s l er es, inner_lt w h (x + r) (y + s) a b c e)
+
 pub inside : {w h x y : ℕ} → Within w h x y → y * w + x < w * h
 inside {w} {h} {x} {y} r = cell_lt w h x y r.left r.down
 
 pub row_lt : (w h i : ℕ) → 0 < w → i < w * h → i / w < h
 row_lt w h i hw hi = (div-lt_iff_lt-mul hw).1 (omega (arith, mul_comm w h))
 
--- a coordinate's place, by the tests of `place`
-pub place_low : (z : ℤ) (side : ℕ) → lt_z z (pos 0) ≡ true → side ≡ place_of z side
-place_low (pos n) side e = absurd (none n (ltb-true n 0 e))
-  where
-    none : (n : ℕ) → n < 0 → ⊥
-    none n h = omega arith
-place_low (negsuc n) side e = refl
-
-pub place_in : (z : ℤ) (side : ℕ) → lt_z z (pos 0) ≡ false → nat_abs z < side → nat_abs z ≡ place_of z side
-place_in (pos n) side e l = rw (lt-ltb n side l)
-place_in (negsuc n) side e l = absurd (true≢false e)
-
-pub place_high : (z : ℤ) (side : ℕ) → lt_z z (pos 0) ≡ false → side ≤ nat_abs z → side ≡ place_of z side
-place_high (pos n) side e l = rw (le-ltb n side l)
-place_high (negsuc n) side e l = absurd (true≢false e)
-
-and_false : (a : Bool) → (a && false) ≡ false
-and_false true = refl
-and_false false = refl
-
-module _ (w h : ℕ) (p : Point) (x y : ℕ) (ex : x ≡ place_of p.x w) (ey : y ≡ place_of p.y h) where
-  pub of_across : w ≤ x → w * h ≡ cell_of w h p
-  unfolding cell_of
-  of_across a = rw (← ex, ← ey, le-ltb x w a)
-
-  pub of_down : h ≤ y → w * h ≡ cell_of w h p
-  unfolding cell_of
-  of_down b = rw (← ex, ← ey, le-ltb y h b, and_false (ltb x w))
-
-  pub of_inside : x < w → y < h → y * w + x ≡ cell_of w h p
-  unfolding cell_of
-  of_inside a b = rw (← ex, ← ey, lt-ltb x w a, lt-ltb y h b)
+pub of_inside : (w h : ℕ) (p : Point) (x y : ℕ) → x ≡ place_of p.x w → y ≡ place_of p.y h → x < w → y < h → y * w + x ≡ cell_of w h p
+unfolding cell_of
+of_inside w h p x y ex ey a b = rw (← ex, ← ey, lt-ltb x w a, lt-ltb y h b)
 
 -- a point that is a cell has a column and a row
 pub places : (w h : ℕ) (p : Point) → cell_of w h p < w * h → (place_of p.x w < w) × (place_of p.y h < h)

@@ -1,13 +1,11 @@
 -- A test that antt computes at each number below a small one, and a lemma that carries it.
 -- Assumes nothing.
-use Prim.Native.Nat.{ℕ, zero, suc, ◌^◌, ◌<◌}
-use mathlib.Core.Path.{◌≡◌, sym, subst}
+use Prim.Native.Nat.{ℕ, zero, suc, ◌<◌}
+use mathlib.Core.Path.{sym, subst}
 use mathlib.Core.Bool.{Bool, true, false, ◌&&◌}
 use mathlib.Core.Logic.{⊎_elim}
-use mathlib.Core.List.{List, [], ◌∷◌}
-use lib.ListN.{get_or}
 use native.Mathlib.Nat.{not-suc-le-zero, eq-or-lt_of_le, le_of_suc-le-suc}
-use lib.Dec.{T, eqb, eqb→eq}
+use lib.Dec.{T}
 
 pub both_left : (a b : Bool) → T (a && b) → T a
 both_left true b t = tt
@@ -27,14 +25,3 @@ of_all f zero t k h = absurd (not-suc-le-zero h)
 of_all f (suc n) t k h =
     ⊎_elim (λ e. subst (λ (i : ℕ). T (f i)) (sym e) (both_left (f n) (all f n) t))
     (λ l. of_all f n (both_right (f n) (all f n) t) k l) (eq-or-lt_of_le (le_of_suc-le-suc h))
-
--- the table of powers
-abbrev pub pows : List ℕ
-pows = 1 ∷ 2 ∷ 4 ∷ 8 ∷ 16 ∷ 32 ∷ 64 ∷ 128 ∷ []
-
-pow_test : ℕ → Bool
-pow_test d = eqb (get_or pows d 0) (2 ^ d)
-
-pub pow8 : (d : ℕ) → d < 8 → get_or pows d 0 ≡ 2 ^ d
-unfolding pow_test
-pow8 d h = eqb→eq _ _ (of_all pow_test 8 tt d h)

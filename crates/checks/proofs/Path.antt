@@ -6,19 +6,18 @@ use Prim.Native.Nat.{ℕ, zero, suc, ◌+◌}
 use native.Mathlib.Omega.{arith}
 use lib.IntN.{ℤ, ◌-ℤ◌}
 use lib.ListN.{drop}
+use Rattle.std.specs.Prelude.{Some, None, Ok}
 use Rattle.points.specs.declared.Point.{Point}
 use Rattle.pairs.specs.Pairs.{point}
 use Rattle.bends.specs.Bends.{bent_of}
 use Rattle.headings.specs.Headings.{heading_of, span_of}
 use Rattle.headings.proofs.Lines.{near_unbent}
-use Rattle.legs.specs.declared.Bend.TheVariants.{Leg, None}
 use Rattle.legs.specs.Legs.{bent_from, first_bent_of}
 use Rattle.paths.specs.Walks.{next_to, walk_of, path_from, path_of}
 use Rattle.paths.proofs.Arrives.{after, arrives}
-use Rattle.paths.proofs.Again.{one_off, Taken, again, path_taken, walked}
-use Rattle.checks.specs.declared.Checked.TheVariants.{Judged}
-use Rattle.checks.specs.Checks.{all_free, clear_of, check_in, unbent, PathSaysSame}
-use Rattle.checks.proofs.Laws.{check_judged}
+use Rattle.paths.proofs.Again.{one_off, again, path_taken, walked}
+use Rattle.pairs.proofs.Taken.{Taken, taken_is}
+use Rattle.checks.specs.Checks.{all_free, clear_of, judged, check_in, unbent, PathSaysSame}
 
 -- ---- no leg of a path is bent
 step_unbent : (p q : Point) → bent_of (heading_of p (next_to p q)) ≡ false
@@ -28,7 +27,7 @@ leg_unbent : (n : ℕ) (p q : Point) (m : List ℤ) → ((k : ℕ) → bent_from
 unfolding walk_of bent_from
 leg_unbent zero p q m rest k = rest k
 leg_unbent (suc n) p q m rest k =
-    ap (λ (b : Bool). cond b (Leg k) (bent_from (k + 1) (next_to p q) (walk_of n (next_to p q) q ++ m))) (step_unbent p q)
+    ap (λ (b : Bool). cond b (Some k) (bent_from (k + 1) (next_to p q) (walk_of n (next_to p q) q ++ m))) (step_unbent p q)
     ∙ leg_unbent n (next_to p q) q m rest (k + 1)
 
 from_unbent : (p : Point) (l : List ℤ) (k : ℕ) → bent_from k p (path_from p l) ≡ None
@@ -46,13 +45,14 @@ path_unbent (x ∷ []) = refl
 path_unbent (x ∷ y ∷ l) = from_unbent (point x y) l 1
 
 -- ---- the check of a list that is taken
-taken : (w h : ℕ) (blocked : List ℕ) (l : List ℤ) → Taken l → check_in w h blocked l ≡ Judged (clear_of w h blocked l) (first_bent_of l)
-taken w h blocked l k = sym (check_judged w h blocked l k.some k.even (clear_of w h blocked l) (first_bent_of l) k.none refl refl)
+taken : (w h : ℕ) (blocked : List ℕ) (l : List ℤ) → Taken l → check_in w h blocked l ≡ Ok (judged (clear_of w h blocked l) (first_bent_of l))
+unfolding check_in
+taken w h blocked l k = taken_is l (Ok (judged (clear_of w h blocked l) (first_bent_of l))) k
 
 pub path_says_same : PathSaysSame
 path_says_same w h blocked l out n e =
     let k = walked l out n e in
     ap (check_in w h blocked) k.1
     ∙ taken w h blocked (path_of l) (path_taken l k.0)
-    ∙ (λ i. Judged (all_free w h blocked (drop 2 (again l i))) (path_unbent l i))
+    ∙ (λ i. Ok (judged (all_free w h blocked (drop 2 (again l i))) (path_unbent l i)))
     ∙ ap unbent (sym (taken w h blocked l k.0))

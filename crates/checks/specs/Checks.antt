@@ -1,22 +1,17 @@
 -- The route check: clear exactly if every cell of the expanded walk after the first point is inside and free; and the first bent leg, clear or not.
 -- A list of points is a list of numbers, x and y in turn.
 -- Assumes nothing: these are definitions.
-use Rattle.std.specs.Prelude.{◌≡◌, Bool, true, ◌&&◌, cond, List, [], ◌∷◌, ℕ, ◌*◌, ◌%◌, ltb, eqb, ℤ, length, get_or, take, drop}
+use Rattle.std.specs.Prelude.{◌≡◌, Option, None, Result, Ok, Err, Bool, true, ◌&&◌, cond, List, [], ◌∷◌, ℕ, ◌*◌, ltb, eqb, ℤ, length, get_or, take, drop}
 use Rattle.points.specs.declared.Point.{Point}
-use Rattle.points.specs.declared.Refusal.TheVariants.{List as ListBroken, BadPoint, State}
+use Rattle.points.specs.declared.Refusal.{Refusal}
+use Rattle.points.specs.declared.Refusal.TheVariants.{State}
 use Rattle.cells.specs.Cells.{cell_of}
 use Rattle.grid.specs.Grids.{legal_of}
 use Rattle.grid.specs.declared.Grid.{Grid}
-use Rattle.pairs.specs.Pairs.{point, first_bad}
-use Rattle.pairs.specs.declared.Bad.{Bad}
-use Rattle.pairs.specs.declared.Bad.TheVariants.{At, Nowhere}
-use Rattle.legs.specs.declared.Bend.{Bend}
-use Rattle.legs.specs.declared.Bend.TheVariants.{None}
+use Rattle.pairs.specs.Pairs.{point, taken_of}
+use Rattle.checks.specs.declared.Checked.{Checked}
 use Rattle.legs.specs.Legs.{first_bent_of}
 use Rattle.paths.specs.Walks.{path_of, path_answer, path_kept}
-use Rattle.paths.specs.declared.Written.TheVariants.{Points}
-use Rattle.checks.specs.declared.Checked.{Checked}
-use Rattle.checks.specs.declared.Checked.TheVariants.{Judged, Refused}
 
 -- a point is inside and free
 unfoldable pub free_at : ℕ → ℕ → List ℕ → Point → Bool
@@ -32,28 +27,24 @@ all_free w h blocked (x ∷ y ∷ l) = free_at w h blocked (point x y) && all_fr
 abbrev pub clear_of : ℕ → ℕ → List ℕ → List ℤ → Bool
 clear_of w h blocked l = all_free w h blocked (drop 2 (path_of l))
 
--- POINT with the first point out of range, else whether the list is clear and its first bent leg
-abbrev pub judged : Bad → Bool → Bend → Checked
-judged (At p) clear bend = Refused (BadPoint p)
-judged Nowhere clear bend = Judged clear bend
+-- whether the list is clear and its first bent leg
+abbrev pub judged : Bool → Option ℕ → Checked
+judged clear bent = record { clear = clear; bent = bent }
 
 -- LIST, POINT, over the cells of a grid
-unfoldable pub check_in : ℕ → ℕ → List ℕ → List ℤ → Checked
-check_in w h blocked l =
-    cond (eqb (length l) 0) (Refused ListBroken)
-    (cond (eqb (length l % 2) 1) (Refused ListBroken)
-    (judged (first_bad l) (clear_of w h blocked l) (first_bent_of l)))
+unfoldable pub check_in : ℕ → ℕ → List ℕ → List ℤ → Result Checked Refusal
+check_in w h blocked l = taken_of l (Ok (judged (clear_of w h blocked l) (first_bent_of l)))
 
 -- STATE, LIST, POINT
-unfoldable pub check_of : Grid → List ℤ → Checked
-check_of g l = cond (legal_of g) (check_in g.width g.height g.blocked l) (Refused State)
+unfoldable pub check_of : Grid → List ℤ → Result Checked Refusal
+check_of g l = cond (legal_of g) (check_in g.width g.height g.blocked l) (Err State)
 
 -- the same with no bent leg
-abbrev pub unbent : Checked → Checked
-unbent (Judged clear bend) = Judged clear None
-unbent (Refused r) = Refused r
+abbrev pub unbent : Result Checked Refusal → Result Checked Refusal
+unbent (Ok v) = Ok (judged v.clear None)
+unbent (Err r) = Err r
 
 -- for hosts that check the path: the n points that `waypoints_to_path` writes of a list l into the room out, checked, are as clear as l, and no leg of them is bent
 abbrev pub PathSaysSame : Type 0
-PathSaysSame = (w h : ℕ) (blocked : List ℕ) (l out : List ℤ) (n : ℕ) → path_answer l (length out) ≡ Points n
-    → check_in w h blocked (take (2 * n) (path_kept (Points n) l out)) ≡ unbent (check_in w h blocked l)
+PathSaysSame = (w h : ℕ) (blocked : List ℕ) (l out : List ℤ) (n : ℕ) → path_answer l (length out) ≡ Ok n
+    → check_in w h blocked (take (2 * n) (path_kept (Ok n) l out)) ≡ unbent (check_in w h blocked l)

@@ -35,6 +35,7 @@ pub fn find_mut(parent: &mut [u16], rank: &[u8], n: usize, start: usize) -> usiz
 }
 
 // The lower of two roots goes below the higher. The caller's roots differ, so each store changes its entry: a root is its own parent, and a rank rises.
+#[tactic(auto, unfolding(crate::specs::Components::linked))]
 fn link(parent: &mut [u16], rank: &mut [u8], a: usize, b: usize)
     requires a_in_bounds { (a < length parent.old) × (b < length parent.old) × (a < length rank.old) × (b < length rank.old) }
     requires a_bound { (a < 2 ^ 16) × (b < 2 ^ 16) × (get_or rank.old a 0 < 255) }
@@ -45,13 +46,12 @@ fn link(parent: &mut [u16], rank: &mut [u8], a: usize, b: usize)
     let rb = rank[b];
     if ra < rb {
         parent[a] = b as u16;
-        return;
+    } else {
+        parent[b] = a as u16;
+        if ra == rb {
+            rank[a] = ra + 1;
+        }
     }
-    parent[b] = a as u16;
-    if rb < ra {
-        return;
-    }
-    rank[a] = ra + 1;
 }
 
 // Joins the components of two cells, and says whether they were two.

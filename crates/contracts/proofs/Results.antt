@@ -6,7 +6,7 @@ use Rattle.contracts.specs.Grids.{Grids}
 use Rattle.contracts.specs.Searches.{Searches}
 use Rattle.contracts.specs.Hosts.{Hosts}
 use Rattle.contracts.specs.Results.{OneResult}
-use Rattle.contracts.proofs.Laws.{equal, both, by_first}
+use Rattle.contracts.proofs.Laws.{equal, both, change, by_first}
 
 -- the calls on directions, points, distances, settings and masks
 values : Values
@@ -26,7 +26,10 @@ values =
       dx = (λ κ a. tt, λ κ a r r' e e'. equal);
       dy = (λ κ a. tt, λ κ a r r' e e'. equal);
       split = (λ κ a. tt, λ κ a r r' e e'. equal);
-      told = (λ κ a. tt, λ κ a r r' e e'. equal);
+      number = (λ κ a. tt, λ κ a r r' e e'. equal);
+      line = (λ κ a. tt, λ κ a r r' e e'. equal);
+      point = (λ κ a. tt, λ κ a r r' e e'. equal);
+      checked = (λ κ a. tt, λ κ a r r' e e'. equal);
       direction_to = (λ κ a. tt, λ κ a r r' e e'. equal);
       distance = (λ κ a. tt, λ κ a r r' e e'. equal);
       in_bounds = (λ κ a. tt, λ κ a r r' e e'. equal);
@@ -44,9 +47,9 @@ grids =
     record {
       legal = (λ κ a. tt, λ κ a r r' e e'. equal);
       new = (λ κ a. tt, λ κ a r r' e e'. equal);
-      set = (λ κ a. tt, λ κ a r r' e e'. equal);
-      generate_components = (λ κ a. tt, λ κ a r r' e e'. equal);
-      update = (λ κ a. tt, λ κ a r r' e e'. equal);
+      set = (λ κ a. tt, λ κ a r r' e e'. change);
+      generate_components = (λ κ a. tt, λ κ a r r' e e'. change);
+      update = (λ κ a. tt, λ κ a r r' e e'. change);
       get_component = (λ κ a. tt, λ κ a r r' e e'. equal);
       neighbour_mask = (λ κ a. tt, λ κ a r r' e e'. equal);
       forced_mask = (λ κ a. tt, λ κ a r r' e e'. equal);
@@ -73,8 +76,8 @@ searches =
       refused = (λ κ a. tt, λ κ a r r' e e'. equal);
       single_inner = λ κ a r r' e e'. both;
       multiple_inner = λ κ a r r' e e'. both;
-      search_loop = λ κ a r r' e e'. equal;
-      expand_node = λ κ a r r' e e'. equal;
+      search_loop = λ κ a r r' e e' p q. equal p.1 q.1;
+      expand_node = λ κ a r r' e e' p q. equal p.1 q.1;
     }
 
 -- the calls for hosts

@@ -1,4 +1,4 @@
--- The calls on a grid by value, with those that read and write a map and check a route. The answer of a call that changes a grid has the grid in it.
+-- The calls on a grid by value, with those that read and write a map and check a route. A call that changes a grid allows one outcome and one grid.
 -- Assumes nothing: these are statements.
 use Rattle.contracts.specs.Allowed.{Free, One, OneWith}
 use Rattle.grid.proofs.legal.Reads as legal
@@ -21,9 +21,10 @@ use Rattle.floors.proofs.write_map.Reads as write_map
 pub record Grids : Type 0 where
   pub legal : Free legal.Asked × One legal.Post
   pub new : Free new.Asked × One new.Post
-  pub set : Free set.Asked × One set.Post
-  pub generate_components : Free generate_components.Asked × One generate_components.Post
-  pub update : Free update.Asked × One update.Post
+  -- the grid is the first parameter
+  pub set : Free set.Asked × OneWith set.Post (λ κ e. e.0.now)
+  pub generate_components : Free generate_components.Asked × OneWith generate_components.Post (λ κ e. e.0.now)
+  pub update : Free update.Asked × OneWith update.Post (λ κ e. e.0.now)
   pub get_component : Free get_component.Asked × One get_component.Post
   pub neighbour_mask : Free neighbour_mask.Asked × One neighbour_mask.Post
   pub forced_mask : Free forced_mask.Asked × One forced_mask.Post

@@ -30,8 +30,6 @@ pub record Searches : Type 0 where
   -- the waypoints stand behind five lent tables and the working room, and with several goals behind three, the list of them and the working room
   pub single_inner : OneWith single_inner.Post (λ κ e. e.1.1.1.1.1.1.1.1.1.1.1.0.now)
   pub multiple_inner : OneWith multiple_inner.Post (λ κ e. e.1.1.1.1.1.1.1.1.1.1.0.now)
-  -- the reply of the loop, and what the expansion of a node comes to, each with the state that the room holds: six slices behind four
-  pub search_loop : OneTold search_loop.Post
-      (λ κ r e. let room = e.1.1.1.1 in reply_of r room.0.now room.1.0.now room.1.1.0.now room.1.1.1.0.now room.1.1.1.1.0.now room.1.1.1.1.1.0.now)
-  pub expand_node : OneTold expand_node.Post
-      (λ κ r e. let room = e.1.1.1.1 in out_of r room.0.now room.1.0.now room.1.1.0.now room.1.1.1.0.now room.1.1.1.1.0.now room.1.1.1.1.1.0.now)
+  -- the reply of the loop, and what the expansion of a node comes to, each with the state that the room holds: it stands behind four slices
+  pub search_loop : OneTold search_loop.Post (λ κ r e. reply_of r e.1.1.1.1.0.now)
+  pub expand_node : OneTold expand_node.Post (λ κ r e. out_of r e.1.1.1.1.0.now)

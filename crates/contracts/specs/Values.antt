@@ -14,7 +14,10 @@ use Rattle.points.proofs.Direction.diagonal.Reads as diagonal
 use Rattle.points.proofs.Direction.dx.Reads as dx
 use Rattle.points.proofs.Direction.dy.Reads as dy
 use Rattle.points.proofs.Direction.split.Reads as split
-use Rattle.points.proofs.Refusal.told.Reads as told
+use Rattle.points.proofs.Refusal.number.Reads as number
+use Rattle.points.proofs.Refusal.line.Reads as line
+use Rattle.points.proofs.Refusal.point.Reads as point
+use Rattle.points.proofs.Point.checked.Reads as checked
 use Rattle.headings.proofs.direction_to.Reads as direction_to
 use Rattle.costs.proofs.distance.Reads as distance
 use Rattle.costs.proofs.in_bounds.Reads as in_bounds
@@ -40,7 +43,10 @@ pub record Values : Type 0 where
   pub dx : Free dx.Asked × One dx.Post
   pub dy : Free dy.Asked × One dy.Post
   pub split : Free split.Asked × One split.Post
-  pub told : Free told.Asked × One told.Post
+  pub number : Free number.Asked × One number.Post
+  pub line : Free line.Asked × One line.Post
+  pub point : Free point.Asked × One point.Post
+  pub checked : Free checked.Asked × One checked.Post
   pub direction_to : Free direction_to.Asked × One direction_to.Post
   pub distance : Free distance.Asked × One distance.Post
   pub in_bounds : Free in_bounds.Asked × One in_bounds.Post

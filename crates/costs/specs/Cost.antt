@@ -1,10 +1,8 @@
 -- The distance: D = 99 a diagonal step, C = 70 a straight one, E = 41. Assumes nothing: these are definitions.
-use Rattle.std.specs.Prelude.{ℕ, ◌+◌, ◌-◌, ◌*◌, ◌/◌, min, max, Bool, true, false, ◌-ℤ◌, unsigned_abs}
-use Rattle.points.specs.Plane.{legal}
+use Rattle.std.specs.Prelude.{Result, Ok, ℕ, ◌+◌, ◌-◌, ◌*◌, ◌/◌, min, max, Bool, true, false, ◌-ℤ◌, unsigned_abs}
+use Rattle.points.specs.Refusals.{of_legal}
 use Rattle.points.specs.declared.Point.{Point}
-use Rattle.points.specs.declared.Refusal.TheVariants.{BadPoint}
-use Rattle.costs.specs.declared.Measure.{Measure}
-use Rattle.costs.specs.declared.Measure.TheVariants.{Cost, Refused}
+use Rattle.points.specs.declared.Refusal.{Refusal}
 
 -- twice the distance with diagonals, of |dx| and |dy|: E·| |dx|-|dy| | + D·(|dx|+|dy|)
 abbrev pub twice : ℕ → ℕ → ℕ
@@ -23,14 +21,6 @@ dist_of d a b = cost_of d (unsigned_abs (b.x -ℤ a.x)) (unsigned_abs (b.y -ℤ 
 abbrev pub farthest : ℕ
 farthest = 286580
 
-abbrev pub pick_measure : Bool → Measure → Measure → Measure
-pick_measure true a b = a
-pick_measure false a b = b
-
--- POINT (first, then second), else the measure m
-abbrev pub of_legal : Point → Point → Measure → Measure
-of_legal a b m = pick_measure (legal a) (pick_measure (legal b) m (Refused (BadPoint b))) (Refused (BadPoint a))
-
--- the distance from a to b, or a refusal
-abbrev pub distance_of : Bool → Point → Point → Measure
-distance_of d a b = of_legal a b (Cost (dist_of d a b))
+-- POINT (first, then second), else the distance from a to b
+abbrev pub distance_of : Bool → Point → Point → Result ℕ Refusal
+distance_of d a b = of_legal a b (Ok (dist_of d a b))

@@ -26,13 +26,6 @@ pub struct Settings {
     pub improved: bool,
 }
 
-// A distance, or a refusal.
-#[derive(Clone, Copy)]
-pub enum Measure {
-    Cost(u32),
-    Refused(Refusal),
-}
-
 // The distance of two absolute differences: 99 for a diagonal step, 70 for a straight one.
 fn cost(diagonal: bool, dx: u32, dy: u32) -> u32
     requires { (dx ≤ 2047) × (dy ≤ 2047) }
@@ -41,11 +34,7 @@ fn cost(diagonal: bool, dx: u32, dy: u32) -> u32
     if !diagonal {
         return 70 * (dx + dy);
     }
-    if dx < dy {
-        (41 * (dy - dx) + 99 * (dx + dy)) / 2
-    } else {
-        (41 * (dx - dy) + 99 * (dx + dy)) / 2
-    }
+    (41 * dx.abs_diff(dy) + 99 * (dx + dy)) / 2
 }
 
 // The distance between two points that are known to be in range.
@@ -59,26 +48,18 @@ pub fn distance_between(diagonal: bool, a: Point, b: Point) -> u32
 }
 
 // The distance from a to b. Refuses POINT (a, then b).
-pub fn distance(diagonal: bool, a: Point, b: Point) -> Measure
+#[tactic(auto, using(points::proofs::Range::checked_ok))]
+pub fn distance(diagonal: bool, a: Point, b: Point) -> Result<u32, Refusal>
     ensures { result ≡ distance_of diagonal a b }
 {
-    if !a.legal() {
-        return Measure::Refused(Refusal::BadPoint(a));
-    }
-    if !b.legal() {
-        return Measure::Refused(Refusal::BadPoint(b));
-    }
-    Measure::Cost(distance_between(diagonal, a, b))
+    Ok(distance_between(diagonal, a.checked()?, b.checked()?))
 }
 
 // Whether a factor is from 0 to 16: negative zero is, NaN and infinity are not.
 pub fn in_bounds(factor: f32) -> bool
     ensures { result ≡ in_bounds factor }
 {
-    if 0.0 <= factor {
-        return factor <= 16.0;
-    }
-    false
+    0.0 <= factor && factor <= 16.0
 }
 
 // A distance as f32 times the factor, rounded once, then cut towards zero. A factor of 1 changes nothing: it is told apart, being the usual one.
@@ -94,20 +75,14 @@ pub fn scale_by(distance: u32, factor: f32) -> u32
 }
 
 // The scaled distance from a to b. Refuses SETTING, then POINT (a, then b).
-pub fn scaled_distance(diagonal: bool, factor: f32, a: Point, b: Point) -> Measure
+#[tactic(auto, using(crate::proofs::Bounds::distance_ok))]
+pub fn scaled_distance(diagonal: bool, factor: f32, a: Point, b: Point) -> Result<u32, Refusal>
     ensures { result ≡ scaled_of diagonal factor a b }
 {
     if !in_bounds(factor) {
-        return Measure::Refused(Refusal::Setting);
+        return Err(Refusal::Setting);
     }
-    if !a.legal() {
-        return Measure::Refused(Refusal::BadPoint(a));
-    }
-    if !b.legal() {
-        return Measure::Refused(Refusal::BadPoint(b));
-    }
-    let d = distance_between(diagonal, a, b);
-    Measure::Cost(scale_by(d, factor))
+    Ok(scale_by(distance(diagonal, a, b)?, factor))
 }
 
 impl Settings {
@@ -129,21 +104,9 @@ impl Settings {
     pub fn legal(self) -> bool
         ensures { result ≡ settings_ok self }
     {
-        if !in_bounds(self.factor) {
-            return false;
-        }
-        if MOST_DEPTH < self.depth {
-            return false;
-        }
-        if self.pops < 1 {
-            return false;
-        }
-        if MOST_POPS < self.pops {
-            return false;
-        }
-        if self.fringe < 1 {
-            return false;
-        }
-        self.fringe <= MOST_FRINGE
+        in_bounds(self.factor)
+            && self.depth <= MOST_DEPTH
+            && (1..=MOST_POPS).contains(&self.pops)
+            && (1..=MOST_FRINGE).contains(&self.fringe)
     }
 }

@@ -1,5 +1,6 @@
 -- The demand on grids by value: a grid that the calls made, from a new one or from one that was read, is the grid of tables that the calls on tables made, and no call refuses its state.
 -- Assumes nothing.
+use Rattle.std.specs.Prelude.{Result, Ok, Err}
 use mathlib.Core.Path.{◌≡◌, refl, sym, ap, subst, ◌∙◌}
 use mathlib.Core.Bool.{Bool, true, not}
 use mathlib.Core.List.{List, [], ◌∷◌}
@@ -7,6 +8,7 @@ use Prim.Native.Nat.{ℕ, suc, ◌+◌, ◌*◌, ◌≤◌, ◌<◌}
 use native.Mathlib.Omega.{arith}
 use native.Mathlib.Decide.{dec_le}
 use Rattle.points.specs.declared.Point.{Point}
+use Rattle.points.specs.declared.Refusal.{Refusal}
 use Rattle.masks.specs.Masks.{forced_of}
 use Rattle.components.proofs.Loops.{and_true}
 use Rattle.cells.specs.Cells.{sized_of, place_of, cell_of}
@@ -16,8 +18,6 @@ use Rattle.rebuilds.specs.Rebuilds.{most_rank}
 use Rattle.tables.specs.Tables.{Tables, edit_of, rebuild_of, update_of}
 use Rattle.rebuilds.proofs.Rebuilds.{fits}
 use Rattle.grid.specs.declared.Grid.{Grid}
-use Rattle.grid.specs.declared.Outcome.{Outcome}
-use Rattle.grid.specs.declared.Outcome.TheVariants.{Done, Refused}
 use Rattle.grid.specs.declared.Change.{Change}
 use Rattle.grid.specs.Grids.{grid_of, legal_of, cell_in, stated_of, located_of, changed, edit_grid, set_outcome, rebuild_grid, update_grid, rebuild_outcome, update_outcome}
 use Rattle.grid.proofs.Tests.{legal_of_lem, located_in, stated_yes, done_located}
@@ -34,11 +34,11 @@ use Rattle.demand.proofs.Theorem
 -- a refused edit hands the same grid back
 refused_set : (g : Grid) (d : Bool) (p : Point) (b : Bool) → g.width * g.height ≤ cell_in g p → (set_outcome g d p b).grid ≡ g
 unfolding set_outcome
-refused_set g d p b l = go (located_of g p) (λ e. omega (arith, (done_located g p e).1))
+refused_set g d p b l = go (located_of g p) (λ i e. omega (arith, (done_located g p e).1.0))
   where
-    go : (o : Outcome) → (Done ≡ o → ⊥) → (changed o g (edit_grid g d p b)).grid ≡ g
-    go Done n = absurd (n refl)
-    go (Refused r) n = refl
+    go : (o : Result ℕ Refusal) → ((i : ℕ) → Ok i ≡ o → ⊥) → (changed o g (edit_grid g d p b)).grid ≡ g
+    go (Ok i) n = absurd (n i refl)
+    go (Err r) n = refl
 
 -- `update` of a dirty grid is the same as `generate_components`
 one_rebuild : (d : Bool) (g r : Grid) → Rebuilt d g r → r ≡ (rebuild_outcome g d).grid

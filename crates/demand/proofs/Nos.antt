@@ -1,5 +1,6 @@
 -- The dispatcher's rule: cells that a walk joins share a component, so no question about components says no of them; and a walk to another cell comes to it
 -- from a neighbour, so no question about neighbours does. Assumes nothing.
+use Rattle.std.specs.Prelude.{Result, Ok, Err}
 use mathlib.Core.Path.{◌≡◌, refl, sym, ap, subst, ◌∙◌}
 use mathlib.Core.Logic.{⊎_elim, inl, inr}
 use mathlib.Core.Bool.{Bool, true, false, true≢false, not, ◌||◌}
@@ -14,11 +15,9 @@ use Rattle.cells.proofs.Cell.{cell_lt, of_inside, same_cell}
 use Rattle.tables.specs.Tables.{Tables}
 use Rattle.joins.specs.Joins.{around}
 use Rattle.questions.specs.Questions.{reachable_of, rooted_of, near_along, near_of, neighbours_reachable_of, neighbours_unreachable_of}
-use Rattle.grid.specs.declared.Outcome.{Outcome}
-use Rattle.grid.specs.declared.Outcome.TheVariants.{Done, Refused}
-use Rattle.grid.specs.declared.Verdict.TheVariants.{Yes, No}
+use Rattle.points.specs.declared.Refusal.{Refusal}
 use Rattle.grid.specs.Grids.{grid_of, asked_of}
-use Rattle.grid.specs.Questions.{verdict_after, reachable_from, unreachable_from, neighbours_reachable_from, neighbours_unreachable_from}
+use Rattle.grid.specs.Questions.{answered, reachable_from, unreachable_from, neighbours_reachable_from, neighbours_unreachable_from}
 use Rattle.demand.specs.Walks.{Free, Step, Walk, stay, move}
 use Rattle.demand.specs.Calls.{begun}
 use Rattle.demand.specs.Nos.{SaysNo, reachable, unreachable, neighbours_reachable, neighbours_unreachable, point, NoWalks, NoIsTrue}
@@ -31,15 +30,9 @@ pub at_point : (w h x y : ℕ) → x < w → y < h → cell_of w h (point x y) �
 at_point w h x y hx hy = sym (of_inside w h (point x y) x y (rw (lt-ltb x w hx)) (rw (lt-ltb y h hy)) hx hy)
 
 -- what an answer says
-said_no : (o : Outcome) (t : Bool) → verdict_after o t ≡ No → t ≡ false
-said_no Done true e = let z : ◌≡◌ {A = ℕ} 0 1 = cc in absurd (omega arith)
-said_no Done false e = refl
-said_no (Refused r) t e = let z : ◌≡◌ {A = ℕ} 0 1 = cc in absurd (omega arith)
-
-said_yes : (o : Outcome) (t : Bool) → verdict_after o t ≡ Yes → t ≡ true
-said_yes Done true e = refl
-said_yes Done false e = let z : ◌≡◌ {A = ℕ} 0 1 = cc in absurd (omega arith)
-said_yes (Refused r) t e = let z : ◌≡◌ {A = ℕ} 0 1 = cc in absurd (omega arith)
+said : {A : Type 0} (o : Result A Refusal) (t b : Bool) → answered o t ≡ Ok b → t ≡ b
+said (Ok a) t b e = cc
+said (Err r) t b e = cc
 
 or_right : (a b : Bool) → b ≡ true → a || b ≡ true
 or_right true b e = refl
@@ -111,7 +104,7 @@ module _ (w h : ℕ) (diagonal : Bool) (t : Tables) (joined : (a c : ℕ) → Wa
   hc : c < w * h
   hc = cell_lt w h i j g.left g.down
 
-  abbrev asked : Outcome
+  abbrev asked : Result (ℕ × ℕ) Refusal
   asked = asked_of (grid_of w h t) (point x y) (point i j)
 
   no_walk : SaysNo (grid_of w h t) diagonal (point x y) (point i j) → Walk w h t.blocked diagonal a c → ⊥
@@ -120,12 +113,12 @@ module _ (w h : ℕ) (diagonal : Bool) (t : Tables) (joined : (a c : ℕ) → Wa
     where
       go : SaysNo (grid_of w h t) diagonal (point x y) (point i j) → reachable_of (w * h) t.parent a c ≡ true
           → cell_of w h (point x y) ≡ a → cell_of w h (point i j) ≡ c → ⊥
-      go (reachable e) q px pi = true≢false (sym q ∙ (rw (px, pi) at (said_no asked _ e)))
-      go (unreachable e) q px pi = true≢false (sym (rw (px, pi) at (said_yes asked _ e)) ∙ ap not q)
+      go (reachable e) q px pi = true≢false (sym q ∙ (rw (px, pi) at (said asked _ _ e)))
+      go (unreachable e) q px pi = true≢false (sym (rw (px, pi) at (said asked _ _ e)) ∙ ap not q)
       go (neighbours_reachable ne e) q px pi =
-          true≢false (sym (near_yes w h t.parent a c ha hc diagonal (walk_near (apart ne) p)) ∙ (rw (px, pi) at (said_no asked _ e)))
+          true≢false (sym (near_yes w h t.parent a c ha hc diagonal (walk_near (apart ne) p)) ∙ (rw (px, pi) at (said asked _ _ e)))
       go (neighbours_unreachable ne e) q px pi =
-          true≢false (sym (rw (px, pi) at (said_yes asked _ e)) ∙ near_no w h t.parent a c ha hc diagonal (walk_near (apart ne) p))
+          true≢false (sym (rw (px, pi) at (said asked _ _ e)) ∙ near_no w h t.parent a c ha hc diagonal (walk_near (apart ne) p))
 
 pub no_is_true : NoIsTrue
 no_is_true s cs d g b es =

@@ -1,5 +1,6 @@
 -- The ranks after one edit of any legal grid value. Every join of an edit is one with the edited cell x, and a rank rises only where both roots have it, and
 -- then it is that of x's root: so x's root alone comes to rank 201, and no root of its rank is left to raise it again. Assumes nothing.
+use Rattle.std.specs.Prelude.{Result, Ok, Err}
 use mathlib.Core.Path.{◌≡◌, refl, sym, ap, ◌∙◌}
 use mathlib.Core.Logic.{◌⊎◌, ⊎_elim, inl, inr}
 use mathlib.Core.Bool.{Bool, true, false}
@@ -17,8 +18,7 @@ use Rattle.cells.proofs.Cell.{cell_lt, places}
 use Rattle.tables.specs.Tables.{Tables, links_of, edit_of}
 use Rattle.joins.specs.Joins.{around, join_cell, joined_to}
 use Rattle.grid.specs.declared.Grid.{Grid}
-use Rattle.grid.specs.declared.Outcome.{Outcome}
-use Rattle.grid.specs.declared.Outcome.TheVariants.{Done, Refused}
+use Rattle.points.specs.declared.Refusal.{Refusal}
 use Rattle.grid.specs.Grids.{tables_of, legal_of, located_of, changed, edit_grid, set_outcome, zeros}
 use Rattle.grid.proofs.Tests.{forest, legal_of_lem, done_located}
 use Rattle.demand.specs.Nos.{point}
@@ -131,11 +131,11 @@ ranks_to_201 g d p b ok long i h = go (located_of g p) refl
     F : Forest 200 (g.width * g.height) g.parent g.rank
     F = forest g ok long.parent long.rank
 
-    go : (o : Outcome) → located_of g p ≡ o → get_or (changed o g (edit_grid g d p b)).grid.rank i 0 ≤ 201
-    go Done e =
-        let q = places g.width g.height p (done_located g p (sym e)).1 in
+    go : (o : Result ℕ Refusal) → located_of g p ≡ o → get_or (changed o g (edit_grid g d p b)).grid.rank i 0 ≤ 201
+    go (Ok j) e =
+        let q = places g.width g.height p (done_located g p (sym e)).1.0 in
         tall_edit g.width g.height d (tables_of g) (place_of p.x g.width) (place_of p.y g.height) b q.0 q.1 F i h
-    go (Refused r) e = omega (arith, F.low i h)
+    go (Err r) e = omega (arith, F.low i h)
 
 abbrev rest : List ℕ
 rest = replicate 4094 0

@@ -1,6 +1,7 @@
 -- What the demand shuts out: one component for all and walks through a blocked cell, by a 3 by 1 grid with its middle blocked, and singletons for all,
 -- by a free 2 by 1 grid.
 -- Assumes nothing.
+use Rattle.std.specs.Prelude.{Ok, Err}
 use mathlib.Core.Path.{◌≡◌, refl, sym, ap, subst, ◌∙◌}
 use mathlib.Core.Logic.{inl}
 use mathlib.Core.Bool.{Bool, true, cond}
@@ -17,7 +18,6 @@ use Rattle.tables.specs.Tables.{new_of, edit_of, rebuild_of}
 use Rattle.points.specs.declared.Refusal.TheVariants.{Size}
 use Rattle.grid.specs.declared.Grid.{Grid}
 use Rattle.grid.specs.declared.Change.{Change}
-use Rattle.grid.specs.declared.Outcome.TheVariants.{Done, Refused}
 use Rattle.grid.specs.Grids.{new_grid, new_outcome, rebuild_outcome, zeros, empty}
 use Rattle.demand.specs.Walks.{Free, Walk, stay, move, NotThrough}
 use Rattle.demand.specs.Calls.{new, begun, Call, after, generated, Edit, after_edits}
@@ -31,7 +31,7 @@ use Rattle.demand.proofs.Nos.{at_point}
 -- the demand on a new grid whose sides are in range
 new_is : (w h : ℕ) → sized_of w h ≡ true → begun (new w h) ≡ new_grid w h
 unfolding new_outcome
-new_is w h ok = ap (λ (b : Bool). (cond {A = Change} b (record { outcome = Done; grid = new_grid w h }) (record { outcome = Refused Size; grid = new_grid 1 1 })).grid) ok
+new_is w h ok = ap (λ (b : Bool). (cond {A = Change} b (record { outcome = Ok tt; grid = new_grid w h }) (record { outcome = Err Size; grid = new_grid 1 1 })).grid) ok
 
 abbrev rebuilt : Bool → List Call → Grid → Grid
 rebuilt d cs g = (rebuild_outcome (after g cs) d).grid

@@ -1,4 +1,5 @@
 -- The grid that `new` or `read_map` hands back is the grid of good tables, with sides in range. Assumes nothing.
+use Rattle.std.specs.Prelude.{Ok, Err}
 use mathlib.Core.Path.{◌≡◌, refl}
 use mathlib.Core.Bool.{Bool, true, false, cond, ◌&&◌}
 use mathlib.Core.List.{List}
@@ -14,16 +15,11 @@ use Rattle.rebuilds.specs.Rebuilds.{most_rank}
 use Rattle.tables.specs.Tables.{Tables, new_of}
 use Rattle.rebuilds.proofs.Rebuilds.{fits}
 use Rattle.grid.specs.declared.Grid.{Grid}
-use Rattle.grid.specs.declared.Outcome.TheVariants.{Done, Refused}
 use Rattle.grid.specs.declared.Change.{Change}
 use Rattle.grid.specs.Grids.{grid_of, zeros, empty, new_grid, new_outcome}
 use Rattle.rows.specs.Rows.{cells_of}
-use Rattle.maps.specs.Maps.{most_text, side_ok, head_of, Fair, map_of, into_table, cells_into}
+use Rattle.maps.specs.Maps.{Head, Reading, most_text, side_ok, head_of, Fair, map_of, into_table, cells_into}
 use Rattle.maps.specs.declared.Header.{Header}
-use Rattle.maps.specs.declared.Head.{Head}
-use Rattle.maps.specs.declared.Head.TheVariants.{Of, Bad as BadHead}
-use Rattle.maps.specs.declared.Reading.{Reading}
-use Rattle.maps.specs.declared.Reading.TheVariants.{Map, Bad}
 use Rattle.floors.specs.Floors.{floor_grid, read_as, read_of}
 use Rattle.floors.proofs.Laws.{map_fair}
 use Rattle.demand.specs.Calls.{Begin, new, read, begun}
@@ -96,8 +92,8 @@ unfolding cells_into
 length_cells t table = go (ltb most_text (length t))
   where
     into : (r : Head) → length (into_table t r table) ≡ length table
-    into (Of m k) = length-sets table 0 (cells_of m.height m.width (drop k t))
-    into (BadHead n) = refl
+    into (Ok (m, k)) = length-sets table 0 (cells_of m.height m.width (drop k t))
+    into (Err n) = refl
 
     go : (b : Bool) → length (cond b table (into_table t (head_of t) table)) ≡ length table
     go true = refl
@@ -108,13 +104,13 @@ unfolding new_outcome read_of
 start (new w h) = go (sized_of w h) refl
   where
     go : (b : Bool) → sized_of w h ≡ b
-        → Start (cond {A = Change} b (record { outcome = Done; grid = new_grid w h }) (record { outcome = Refused Size; grid = new_grid 1 1 })).grid
+        → Start (cond {A = Change} b (record { outcome = Ok tt; grid = new_grid w h }) (record { outcome = Err Size; grid = new_grid 1 1 })).grid
     go true e = start_new w h e
     go false e = start_new 1 1 one
 start (read t) = go (map_of t) refl
   where
     go : (r : Reading) → map_of t ≡ r → Start (read_as (cells_into t zeros) r).grid
-    go (Map m) e =
+    go (Ok m) e =
         let ok = fair_sized m (map_fair t m e) in
         start_floor m.width m.height ok (cells_into t zeros) (omega (arith, roomy m.width m.height ok, length_cells t zeros))
-    go (Bad n) e = start_new 1 1 one
+    go (Err n) e = start_new 1 1 one

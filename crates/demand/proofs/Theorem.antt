@@ -1,10 +1,10 @@
 -- Demand 3. The crux: after a rebuild two cells share a component exactly where a walk joins them (`rebuilt_covers`, `rebuilt_honest`); an edit
 -- only joins (`edit_keeps`); an edit that frees a cell joins it along exactly the moves that are new (`edit_covers`, `edit_honest`). Assumes nothing.
 use mathlib.Core.Path.{◌≡◌, refl, sym, ap, subst, ◌∙◌}
-use mathlib.Core.Logic.{◌⊎◌, ⊎_elim}
+use mathlib.Core.Logic.{⊎_elim}
 use mathlib.Core.Bool.{Bool, true, false, not, ◌&&◌}
 use mathlib.Core.List.{List, [], ◌∷◌}
-use Prim.Native.Nat.{ℕ, ◌+◌, ◌-◌, ◌*◌, ◌^◌, ◌≤◌, ◌<◌}
+use Prim.Native.Nat.{ℕ, ◌+◌, ◌*◌, ◌^◌, ◌≤◌, ◌<◌}
 use native.Mathlib.Omega.{arith}
 use native.Mathlib.Decide.{ℕ_discrete}
 use lib.ListN.{get_or, set}
@@ -20,7 +20,7 @@ use Rattle.rebuilds.specs.Rebuilds.{singles, columns_to}
 use Rattle.tables.specs.Tables.{Tables, links_of, edit_of, rebuild_of}
 use Rattle.joins.specs.Joins.{around, ahead, joined_to}
 use Rattle.joins.proofs.Joins.{Held}
-use Rattle.rebuilds.proofs.Rebuilds.{held_singles, fits}
+use Rattle.rebuilds.proofs.Rebuilds.{held_singles}
 use Rattle.demand.specs.Walks.{Free, Step, Move, Walk, stay}
 use Rattle.demand.specs.Demand3.{ForcedRight}
 use Rattle.demand.proofs.Runs.{Edit, edited, after_edits, none_blocks, Clauses}

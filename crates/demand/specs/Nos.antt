@@ -1,20 +1,19 @@
 -- THE DISPATCHER'S RULE: once the components of a grid are generated, and whatever is edited after that, every no of the four questions about two different
 -- free cells is true: no walk joins them. The rebuild, the edits and the question go by one diagonal setting. Calls.antt says how the grid came about,
 -- Walks.antt what a walk is. Assumes nothing.
-use Rattle.std.specs.Prelude.{◌≡◌, Bool, List, ℕ, ◌+◌, ◌*◌, pos}
+use Rattle.std.specs.Prelude.{◌≡◌, Bool, true, false, List, ℕ, ◌+◌, ◌*◌, pos, Ok}
 use Rattle.points.specs.declared.Point.{Point}
 use Rattle.grid.specs.declared.Grid.{Grid}
-use Rattle.grid.specs.declared.Verdict.TheVariants.{Yes, No}
 use Rattle.grid.specs.Questions.{reachable_from, unreachable_from, neighbours_reachable_from, neighbours_unreachable_from}
 use Rattle.demand.specs.Walks.{Free, Walk}
 use Rattle.demand.specs.Calls.{Begin, begun, Call, after, Rebuilt, Edit, after_edits}
 
 -- one of the four questions says no. The two about the goal's neighbours count where the goal is not the start: a cell has itself for no neighbour
 pub data SaysNo (g : Grid) (diagonal : Bool) (start goal : Point) : Type 0 where
-  reachable : reachable_from g start goal ≡ No → SaysNo g diagonal start goal
-  unreachable : unreachable_from g start goal ≡ Yes → SaysNo g diagonal start goal
-  neighbours_reachable : (start ≡ goal → ⊥) → neighbours_reachable_from g diagonal start goal ≡ No → SaysNo g diagonal start goal
-  neighbours_unreachable : (start ≡ goal → ⊥) → neighbours_unreachable_from g diagonal start goal ≡ Yes → SaysNo g diagonal start goal
+  reachable : reachable_from g start goal ≡ Ok false → SaysNo g diagonal start goal
+  unreachable : unreachable_from g start goal ≡ Ok true → SaysNo g diagonal start goal
+  neighbours_reachable : (start ≡ goal → ⊥) → neighbours_reachable_from g diagonal start goal ≡ Ok false → SaysNo g diagonal start goal
+  neighbours_unreachable : (start ≡ goal → ⊥) → neighbours_unreachable_from g diagonal start goal ≡ Ok true → SaysNo g diagonal start goal
 
 -- the cell (x, y) as a point
 abbrev pub point : ℕ → ℕ → Point

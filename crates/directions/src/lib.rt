@@ -5,11 +5,11 @@ ghost use Rattle.std.specs.Prelude.{◌≡◌, ◌≤◌, ◌<◌, ◌+◌, ◌%
 ghost use Rattle.directions.specs.Offsets.{off_x, off_y};
 
 // The column offset of a direction, one more than it is: with off_y the one table of the pinned offsets.
+#[tactic(auto, unfolding(crate::specs::Offsets::off_x))]
 pub fn off_x(d: u8) -> usize
     ensures { (result ≡ off_x (d % 8)) × (result ≤ 2) }
 {
-    let n = d % 8;
-    match n {
+    match d % 8 {
         0 => 1,
         1 => 2,
         2 => 2,
@@ -22,11 +22,11 @@ pub fn off_x(d: u8) -> usize
 }
 
 // The row offset of a direction, one more than it is.
+#[tactic(auto, unfolding(crate::specs::Offsets::off_y))]
 pub fn off_y(d: u8) -> usize
     ensures { (result ≡ off_y (d % 8)) × (result ≤ 2) }
 {
-    let n = d % 8;
-    match n {
+    match d % 8 {
         0 => 0,
         1 => 0,
         2 => 1,
@@ -42,8 +42,7 @@ pub fn off_y(d: u8) -> usize
 pub fn right_of(d: u8) -> u8
     ensures { (result ≡ (d + 1) % 8) × (result < 8) }
 {
-    let n = d % 8;
-    match n {
+    match d % 8 {
         0 => 1,
         1 => 2,
         2 => 3,
@@ -59,8 +58,7 @@ pub fn right_of(d: u8) -> u8
 pub fn left_of(d: u8) -> u8
     ensures { (result ≡ (d + 7) % 8) × (result < 8) }
 {
-    let n = d % 8;
-    match n {
+    match d % 8 {
         0 => 7,
         1 => 0,
         2 => 1,
@@ -76,8 +74,7 @@ pub fn left_of(d: u8) -> u8
 pub fn back_of(d: u8) -> u8
     ensures { (result ≡ (d + 4) % 8) × (result < 8) }
 {
-    let n = d % 8;
-    match n {
+    match d % 8 {
         0 => 4,
         1 => 5,
         2 => 6,

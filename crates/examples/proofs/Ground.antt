@@ -6,7 +6,8 @@ use Rattle.directions.specs.Offsets.{off_x, off_y}
 use Rattle.costs.specs.Cost.{dist_of}
 use Rattle.costs.specs.Scale.{in_bounds, scale_of}
 use Rattle.masks.specs.Masks.{has_bit, forced_of, pruned_of, straight_of}
-use Rattle.goals.specs.Goals.{point_at, bad_of, least_to, among_to, left_of, guess_of}
+use Rattle.pairs.specs.Pairs.{first_bad}
+use Rattle.goals.specs.Goals.{point_at, least_to, among_to, left_of, guess_of}
 use Rattle.examples.specs.Ground.{Points, Costs, Masks, Goals, Ground}
 
 points : Points
@@ -68,7 +69,7 @@ masks =
     }
 
 goals : Goals
-unfolding dist_of scale_of mul of_int to_unsigned round size span climb units odd point_at bad_of least_to among_to left_of guess_of
+unfolding dist_of scale_of mul of_int to_unsigned round size span climb units odd point_at first_bad least_to among_to left_of guess_of
 goals =
     record {
       odd_count = (refl, refl);

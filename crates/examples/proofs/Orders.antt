@@ -6,7 +6,7 @@ use Rattle.states.specs.States.{cell_ok}
 use Rattle.components.specs.Components.{root_of, climb}
 use Rattle.cells.specs.Cells.{sized_of, cell_of}
 use Rattle.questions.specs.Questions.{rooted_of, reachable_of}
-use Rattle.goals.specs.Goals.{point_at, bad_of}
+use Rattle.goals.specs.Goals.{point_at}
 use Rattle.plans.specs.Plans.{ready_of, barred_of}
 use Rattle.finder.specs.Find as finder
 use Rattle.grid.specs.Grids.{legal_of, located_of, asked_of, set_outcome}
@@ -19,7 +19,7 @@ use Rattle.floors.specs.Floors.{put_of}
 use Rattle.examples.specs.Orders.{Orders}
 
 pub orders : Orders
-unfolding in_bounds le lt eq cell_ok root_of climb sized_of cell_of rooted_of reachable_of point_at bad_of ready_of barred_of finder.single_of finder.several_of legal_of located_of asked_of set_outcome component_at neighbour_mask_at forced_mask_at pruned_mask_at reachable_from unreachable_from neighbours_reachable_from neighbours_unreachable_from waypoints.single_of waypoints.several_of first_bad path_answer counted_of path_of path_from walk_of check_in check_of put_of
+unfolding in_bounds le lt eq cell_ok root_of climb sized_of cell_of rooted_of reachable_of point_at first_bad ready_of barred_of finder.single_of finder.several_of legal_of located_of asked_of set_outcome component_at neighbour_mask_at forced_mask_at pruned_mask_at reachable_from unreachable_from neighbours_reachable_from neighbours_unreachable_from waypoints.single_of waypoints.several_of path_answer counted_of path_of path_from walk_of check_in check_of put_of
 orders =
     record {
       direction_to = (refl, refl, refl, refl);

@@ -9,7 +9,8 @@ use Rattle.cells.specs.Cells as cells
 use Rattle.questions.specs.Questions.{reachable_of, rooted_of, near_along, near_of, neighbours_unreachable_of}
 use Rattle.costs.specs.Cost.{dist_of}
 use Rattle.costs.specs.Scale.{in_bounds, scale_of}
-use Rattle.goals.specs.Goals.{point_at, bad_of, least_to, among_to, goal_at, left_of, guess_of}
+use Rattle.pairs.specs.Pairs.{first_bad}
+use Rattle.goals.specs.Goals.{point_at, least_to, among_to, goal_at, left_of, guess_of}
 use Rattle.sifts.specs.Sifts.{up, down}
 use Rattle.fringe.specs.Fringe.{push, top, rest}
 use Rattle.keys.specs.Keys.{key_of, cost_of}
@@ -38,7 +39,7 @@ use Rattle.examples.specs.Searches.{Searches, Steps}
 
 -- what a search computes with
 unfoldable pub computing : Bool
-unfolding off_x off_y has_bit pruned_of cell_ok root_of climb cells.sized_of cells.cell_of reachable_of rooted_of near_along near_of neighbours_unreachable_of dist_of in_bounds scale_of point_at bad_of least_to among_to goal_at left_of guess_of up down push top rest key_of cost_of added lowered note_of area_of place_point guess_at offer_of each visit_of turn_of run none begin search_of stops.byte_at stops.within stops.free_at stops.stops_at looks.reach_of looks.run looks.sees_on looks.sees_either looks.turns_at jumps.halts_at jumps.jump_of again_at give_of follow_with expand_with deeper_at leap_of free_cell neighbour_of toward_of spread_of yield_of goal_of search_for route_of pairs wrote_of left_in ready_of barred_of finder.answer_of finder.out_after finder.started_of finder.single_of finder.several_of legal_of new_grid rebuild_grid tables.new_of tables.rebuild_of tables.edit_of rebuilds.columns_to rebuilds.column_to rebuilds.cell_joined joins.joined_to joins.join_cell joins.around joins.ahead united linked halve halves cells.cell_at refresh.with_bit refresh.touched refresh.fixed refresh.fixed_all refresh.masks_after fills.free_bit fills.mask_of forced_of single_of several_of mul le of_int to_unsigned
+unfolding off_x off_y has_bit pruned_of cell_ok root_of climb cells.sized_of cells.cell_of reachable_of rooted_of near_along near_of neighbours_unreachable_of dist_of in_bounds scale_of point_at first_bad least_to among_to goal_at left_of guess_of up down push top rest key_of cost_of added lowered note_of area_of place_point guess_at offer_of each visit_of turn_of run none begin search_of stops.byte_at stops.within stops.free_at stops.stops_at looks.reach_of looks.run looks.sees_on looks.sees_either looks.turns_at jumps.halts_at jumps.jump_of again_at give_of follow_with expand_with deeper_at leap_of free_cell neighbour_of toward_of spread_of yield_of goal_of search_for route_of pairs wrote_of left_in ready_of barred_of finder.answer_of finder.out_after finder.started_of finder.single_of finder.several_of legal_of new_grid rebuild_grid tables.new_of tables.rebuild_of tables.edit_of rebuilds.columns_to rebuilds.column_to rebuilds.cell_joined joins.joined_to joins.join_cell joins.around joins.ahead united linked halve halves cells.cell_at refresh.with_bit refresh.touched refresh.fixed refresh.fixed_all refresh.masks_after fills.free_bit fills.mask_of forced_of single_of several_of mul le of_int to_unsigned
 computing = true
 
 pub searches : Searches

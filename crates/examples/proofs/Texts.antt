@@ -1,4 +1,5 @@
 -- The lines, map texts, walks, prints and numbers of specs/Texts.antt, computed. Assumes nothing.
+use Rattle.std.specs.Prelude.{Ok, Err}
 use mathlib.Core.Path.{◌≡◌, refl, ap}
 use mathlib.Core.Bool.{Bool, true, false, cond}
 use mathlib.Core.List.{[]}
@@ -15,9 +16,8 @@ use Rattle.cells.specs.Cells.{sized_of, cell_of}
 use Rattle.text.specs.Grammar.{more_of, number_of, coord_of}
 use Rattle.lines.specs.Lines.{number_line, point_line}
 use Rattle.printing.specs.Render.{digits_in}
-use Rattle.rows.specs.Rows.{cells_then, row_ok, rows_of, marks, cells_of}
+use Rattle.rows.specs.Rows.{bad_line, cells_then, row_ok, rows_of, marks, cells_of}
 use Rattle.maps.specs.Maps.{size_line, flag_line, head_of, with_head, most_text, map_of, cells_into}
-use Rattle.maps.specs.declared.Reading.TheVariants as reading
 use Rattle.map_printing.specs.Shown.{shown, row_text, rows_text, map_text}
 use Rattle.tables.specs.Tables.{new_of}
 use Rattle.grid.specs.Grids.{stated_of, new_grid, rebuild_outcome}
@@ -27,7 +27,6 @@ use Rattle.legs.specs.Legs.{bent_from, first_bent_of}
 use Rattle.checks.specs.Checks.{free_at, all_free, check_in, check_of}
 use Rattle.answers.specs.Answers.{points_text, answer_text, bad_text}
 use Rattle.floors.specs.Floors.{floor_grid, read_of, shown_of, put_of}
-use Rattle.floors.specs.declared.Put.TheVariants as put
 use Rattle.boundary.specs.Lent.{links_ok, ground_ok}
 use Rattle.boundary.specs.Texts.{printed_of}
 use Rattle.router.specs.Route.{exact_of, checked_text, route_text}
@@ -59,14 +58,14 @@ maps = record {
   free = refl;
   more = refl;
   line = (refl, refl);
-  most = ((λ t e. ap (λ (n : ℕ). cond (ltb most_text n) (reading.Bad 0) (with_head t (head_of t))) e), (λ t e. ap (λ (n : ℕ). cond (ltb most_text n) (reading.Bad 0) (with_head t (head_of t))) e));
+  most = ((λ t e. ap (λ (n : ℕ). cond (ltb most_text n) (Err (bad_line 0)) (with_head t (head_of t))) e), (λ t e. ap (λ (n : ℕ). cond (ltb most_text n) (Err (bad_line 0)) (with_head t (head_of t))) e));
   glyph = refl;
   setting = refl;
   nothing = (refl, refl, refl, refl);
   dirty = refl;
   room = (
-    (λ g e. ap (λ (b : Bool). cond b (put.Refused refusal.Room) (put.Refused refusal.State)) e),
-    (λ g e. ap (λ (b : Bool). cond b (put.Bytes (length (shown_of g true (at 0 0) (at 2 0)))) (put.Refused refusal.State)) e),
+    (λ g e. ap (λ (b : Bool). cond b (Err refusal.Room) (Err refusal.State)) e),
+    (λ g e. ap (λ (b : Bool). cond b (Ok (length (shown_of g true (at 0 0) (at 2 0)))) (Err refusal.State)) e),
   );
 }
 

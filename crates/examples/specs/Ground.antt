@@ -1,29 +1,25 @@
 -- Points, directions, refusals, distances, settings, masks and goals: what the definitions that the contracts cite give at small inputs.
 -- Assumes nothing: these are statements. Each rules out the wrong answer that its line names.
-use Rattle.std.specs.Prelude.{◌≡◌, true, false, List, [], ◌∷◌, ℕ, zero, suc, ◌+◌, ◌%◌, ℤ, pos, negsuc, ◌-ℤ◌, nat_abs, Float}
+use Rattle.std.specs.Prelude.{Some, None, Ok, Err, ◌≡◌, true, false, List, [], ◌∷◌, ℕ, zero, suc, ◌+◌, ◌%◌, ℤ, pos, negsuc, ◌-ℤ◌, nat_abs, Float}
 use Rattle.std.specs.Float.{nan, inf, fin}
 use Rattle.points.specs.Plane.{in_range, legal}
 use Rattle.points.specs.Compass.{moved, dir, sign_of, clockwise, counterclockwise, diagonal_of, split_of}
 use Rattle.bends.specs.Bends.{way_of, steps_of}
 use Rattle.headings.specs.Headings.{heading_of}
-use Rattle.bends.specs.declared.Heading.TheVariants.{Straight, Bent, Refused}
-use Rattle.bends.specs.declared.Way.TheVariants.{Along, Still}
+use Rattle.bends.specs.declared.Heading.TheVariants.{Straight, Bent}
 use Rattle.points.specs.Refusals.{told_of}
 use Rattle.points.specs.declared.Point.{Point}
 use Rattle.points.specs.declared.Refusal.TheVariants as refusal
-use Rattle.points.specs.declared.Sign.TheVariants.{Minus, Plus}
-use Rattle.points.specs.declared.Parts.TheVariants.{Pair, Whole}
+use Rattle.std.specs.declared.cmp.Ordering.TheVariants.{Less, Greater}
 use Rattle.costs.specs.Cost.{dist_of}
 use Rattle.costs.specs.Scale.{one, sixteen, in_bounds, scale_of, scaled_of}
 use Rattle.costs.specs.Limits.{new_settings, settings_ok}
 use Rattle.costs.specs.declared.Settings.{Settings}
-use Rattle.costs.specs.declared.Measure.TheVariants.{Cost}
 use Rattle.masks.specs.Masks.{has_bit, forced_of, pruned_in}
-use Rattle.goals.specs.Goals.{point_of, same_point, count_of, bad_of, least_to, is_goal, guess_of}
+use Rattle.pairs.specs.Pairs.{first_bad}
+use Rattle.goals.specs.Goals.{point_of, same_point, count_of, least_to, is_goal, guess_of}
 use Rattle.goals.specs.declared.Goal.TheVariants.{Near, Several}
 use Rattle.goals.specs.declared.Plan.{Plan}
-use Rattle.goals.specs.declared.Listed.TheVariants as listed
-use Rattle.goals.specs.declared.Misplaced.TheVariants.{At, Nowhere}
 
 -- the point (x,y), and a number below zero
 abbrev pub at : ℤ → ℤ → Point
@@ -61,7 +57,7 @@ pub record Points : Type 0 where
   -- right of 7, left of 0 and the opposite of 6: a turn the other way or too far, and a number past 7
   pub eighths : ((7 + 1) % 8 ≡ 0) × ((0 + 7) % 8 ≡ 7) × ((6 + 4) % 8 ≡ 2)
   -- from 5 to 2: the difference turned round, and cut off at 0
-  pub difference : (sign_of (pos 2 -ℤ pos 5) ≡ Minus) × (sign_of (pos 5 -ℤ pos 2) ≡ Plus) × (nat_abs (pos 2 -ℤ pos 5) ≡ 3)
+  pub difference : (sign_of (pos 2 -ℤ pos 5) ≡ Less) × (sign_of (pos 5 -ℤ pos 2) ≡ Greater) × (nat_abs (pos 2 -ℤ pos 5) ≡ 3)
   -- 1,023 refused, or 1,024 taken
   pub range_top : (in_range (pos 1023) ≡ true) × (in_range (pos 1024) ≡ false)
   -- -1,024 refused, or -1,025 taken
@@ -75,21 +71,21 @@ pub record Points : Type 0 where
   -- even directions diagonal, all of them or none
   pub diagonal : (diagonal_of 1 ≡ true) × (diagonal_of 2 ≡ false)
   -- the two cardinals of a diagonal swapped, and a cardinal that splits
-  pub split : (split_of 1 ≡ Pair (dir 2) (dir 0)) × (split_of 5 ≡ Pair (dir 6) (dir 4)) × (split_of 2 ≡ Whole)
+  pub split : (split_of 1 ≡ Some (dir 2, dir 0)) × (split_of 5 ≡ Some (dir 6, dir 4)) × (split_of 2 ≡ None)
   -- LIST numbered as MAP, or any other number
   pub told : numbers ≡ 1 ∷ 2 ∷ 3 ∷ 4 ∷ 5 ∷ 6 ∷ 7 ∷ 8 ∷ 9 ∷ 10 ∷ 11 ∷ 12 ∷ 13 ∷ 14 ∷ []
   -- the line or the point lost
   pub carried : ((told_of (refusal.Map 3)).line ≡ 3) × ((told_of (refusal.Same (at (pos 5) (pos 7)))).point ≡ at (pos 5) (pos 7))
   -- signs swapped; and the sign alone gives the direction, aligned or not
-  pub signs : (heading_of origin (at (pos 2) (pos 0)) ≡ Straight (dir 2) 2) × (heading_of origin (at (pos 5) (minus 1)) ≡ Bent (dir 1) 5)
+  pub signs : (heading_of origin (at (pos 2) (pos 0)) ≡ Ok (Straight (dir 2) 2)) × (heading_of origin (at (pos 5) (minus 1)) ≡ Ok (Bent (dir 1) 5))
   -- a slant called bent, or its differences held against each other with their signs
-  pub slants : (heading_of origin (at (pos 3) (pos 3)) ≡ Straight (dir 3) 3) × (heading_of origin (at (pos 3) (minus 3)) ≡ Straight (dir 1) 3)
+  pub slants : (heading_of origin (at (pos 3) (pos 3)) ≡ Ok (Straight (dir 3) 3)) × (heading_of origin (at (pos 3) (minus 3)) ≡ Ok (Straight (dir 1) 3))
   -- the smaller difference told, or their sum, or what is near a slant called straight: either may be the larger
-  pub larger : (heading_of origin (at (pos 4) (pos 3)) ≡ Bent (dir 3) 4) × (heading_of origin (at (minus 3) (pos 4)) ≡ Bent (dir 5) 4)
+  pub larger : (heading_of origin (at (pos 4) (pos 3)) ≡ Ok (Bent (dir 3) 4)) × (heading_of origin (at (minus 3) (pos 4)) ≡ Ok (Bent (dir 5) 4))
   -- the direction of a bent one lost, or a way or steps between equal points
-  pub ways : (way_of (Straight (dir 1) 3) ≡ Along (dir 1)) × (way_of (Bent (dir 3) 4) ≡ Along (dir 3)) × (way_of (Refused refusal.State) ≡ Still) × (steps_of (Refused refusal.State) ≡ 0)
+  pub ways : (way_of (Ok (Straight (dir 1) 3)) ≡ Some (dir 1)) × (way_of (Ok (Bent (dir 3) 4)) ≡ Some (dir 3)) × (way_of (Err refusal.State) ≡ None) × (steps_of (Err refusal.State) ≡ 0)
   -- a direction between equal points, or another point told
-  pub same_refused : heading_of (at (pos 5) (pos 7)) (at (pos 5) (pos 7)) ≡ Refused (refusal.Same (at (pos 5) (pos 7)))
+  pub same_refused : heading_of (at (pos 5) (pos 7)) (at (pos 5) (pos 7)) ≡ Err (refusal.Same (at (pos 5) (pos 7)))
 
 -- settings with these limits of depth, pops and fringe; and with this factor
 abbrev pub limited : ℕ → ℕ → ℕ → Settings
@@ -124,7 +120,7 @@ pub record Costs : Type 0 where
   -- the usual factor changes a distance
   pub factor_one : scale_of 99 one ≡ 99
   -- negative zero scales to another number than 0, or is refused
-  pub factor_minus_zero : scaled_of true minus_zero origin (at (pos 1) (pos 0)) ≡ Cost 0
+  pub factor_minus_zero : scaled_of true minus_zero origin (at (pos 1) (pos 0)) ≡ Ok 0
   -- a new grid's settings with another factor, a flag off or a smaller limit
   pub new_ones : new_settings ≡ record { factor = fin false 1 (pos 0); diagonal = true; improved = true; depth = 64; pops = 65535; fringe = 8192 }
   -- settings with negative zero refused, with NaN taken
@@ -166,13 +162,13 @@ halfway = record { start = origin; goal = Several 2; w = 1; h = 1; target = 2; s
 -- the goals of a search
 pub record Goals : Type 0 where
   -- an odd count of numbers taken, or none
-  pub odd_count : (count_of 3 ≡ listed.Refused refusal.Goals) × (count_of 0 ≡ listed.Refused refusal.Goals)
+  pub odd_count : (count_of 3 ≡ Err refusal.Goals) × (count_of 0 ≡ Err refusal.Goals)
   -- 64 goals refused, 65 taken
-  pub sixty_five : (count_of 128 ≡ listed.Goals 64) × (count_of 130 ≡ listed.Refused refusal.Goals)
+  pub sixty_five : (count_of 128 ≡ Ok 64) × (count_of 130 ≡ Err refusal.Goals)
   -- the last goal unread, and a point in range blamed
   pub misplaced :
-      (bad_of (pos 5 ∷ pos 0 ∷ pos 1 ∷ pos 1024 ∷ []) 2 0 ≡ At (at (pos 1) (pos 1024)))
-      × (bad_of two 2 0 ≡ Nowhere)
+      (first_bad (pos 5 ∷ pos 0 ∷ pos 1 ∷ pos 1024 ∷ []) ≡ Some (at (pos 1) (pos 1024)))
+      × (first_bad two ≡ None)
   -- 70 for the 99 of an approximate goal, and more than 99
   pub near : (is_goal [] true (Near origin) (at (pos 1) (pos 1)) ≡ true) × (is_goal [] true (Near origin) (at (pos 2) (pos 0)) ≡ false)
   -- the least distance unscaled (70), or the greatest scaled (175)

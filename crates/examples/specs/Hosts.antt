@@ -1,18 +1,15 @@
 -- What a host is told: the order in which the calls on lent tables refuse, as specs/Orders.antt has it for the library's, and answers as numbers.
 -- Assumes nothing: these are statements.
-use Rattle.std.specs.Prelude.{◌≡◌, true, false, List, [], ◌∷◌, ℕ, ◌*◌, pos}
+use Rattle.std.specs.Prelude.{◌≡◌, true, false, Ok, Err, List, [], ◌∷◌, ℕ, ◌*◌, pos, Some, None}
 use Rattle.points.specs.Refusals.{told_of}
 use Rattle.points.specs.declared.Point.{Point}
 use Rattle.points.specs.declared.Refusal.TheVariants as refusal
 use Rattle.costs.specs.Scale.{one}
 use Rattle.offers.specs.Search.{refused}
-use Rattle.legs.specs.declared.Bend.TheVariants.{Leg, None}
-use Rattle.checks.specs.declared.Checked.TheVariants as Checked
-use Rattle.paths.specs.declared.Written.TheVariants as Written
 use Rattle.tables.specs.Tables.{Tables}
-use Rattle.finder.specs.declared.Outcome.TheVariants as Outcome
-use Rattle.finder.specs.Find.{Ground, lent_ground}
+use Rattle.finder.specs.Find.{Ground, found_of, lent_ground}
 use Rattle.packing.specs.Packing.{flag_of, point_of, refused_as, mark_of, settings_of}
+use Rattle.checks.specs.Checks.{judged}
 use Rattle.replies.specs.Replies.{route_of, told_reply, written_reply, check_reply}
 use Rattle.boundary.specs.Lent as lent
 use Rattle.boundary.specs.Searches.{single_lent, several_lent}
@@ -69,8 +66,8 @@ pub record Hosts : Type 0 where
   pub single_goal : (single_lent floor wild zeros never most false far low ≡ refused refusal.State 0) × (single_lent floor own zeros never most false far low ≡ refused refusal.Setting 0)
   pub multiple_goals : (several_lent floor wild zeros never most far three ≡ refused refusal.State 0) × (several_lent floor own zeros never most far three ≡ refused refusal.Setting 0)
   -- STATE, LIST, POINT
-  pub check_route : (check_lent 2 1 zeros wild zeros three ≡ Checked.Refused refusal.State) × (check_lent 2 1 zeros own zeros three ≡ Checked.Refused refusal.List)
-      × (check_lent 2 1 zeros own zeros both_bad ≡ Checked.Refused (blamed far))
+  pub check_route : (check_lent 2 1 zeros wild zeros three ≡ Err refusal.State) × (check_lent 2 1 zeros own zeros three ≡ Err refusal.List)
+      × (check_lent 2 1 zeros own zeros both_bad ≡ Err (blamed far))
 
 -- (5,7)
 abbrev pub there : Point
@@ -89,16 +86,16 @@ pub record Replies : Type 0 where
   -- a refusal of which its number alone is answered, so that it looks like an answer
   pub apart : (refused_as refusal.List ≡ numbered 13) × (refused_as (refusal.BadPoint there) ≡ numbered 14)
   -- count, cost and pops of a route exchanged, or a point with it
-  pub found : route_of (told 3 (Outcome.Found 2 70)) ≡ record { refusal = 0; pops = 3; waypoints = 2; cost = 70; x = pos 0; y = pos 0 }
+  pub found : route_of (told 3 (Ok (found_of 2 70))) ≡ record { refusal = 0; pops = 3; waypoints = 2; cost = 70; x = pos 0; y = pos 0 }
   -- the pops before a refusal lost, or the point that it concerns
-  pub not_found : (route_of (told 1 (Outcome.Refused refusal.Exhausted)) ≡ record { refusal = 6; pops = 1; waypoints = 0; cost = 0; x = pos 0; y = pos 0 })
-      × (route_of (told 0 (Outcome.Refused (refusal.BadPoint there))) ≡ record { refusal = 14; pops = 0; waypoints = 0; cost = 0; x = pos 5; y = pos 7 })
+  pub not_found : (route_of (told 1 (Err refusal.Exhausted)) ≡ record { refusal = 6; pops = 1; waypoints = 0; cost = 0; x = pos 0; y = pos 0 })
+      × (route_of (told 0 (Err (refusal.BadPoint there))) ≡ record { refusal = 14; pops = 0; waypoints = 0; cost = 0; x = pos 5; y = pos 7 })
   -- the point of a refusal lost, or its number told as a value
   pub concerned : told_reply (told_of (refusal.BadPoint there)) ≡ record { refusal = 14; value = 0; x = pos 5; y = pos 7 }
   -- a refusal of a path told as a count, or as another
-  pub unwritten : written_reply (Written.Refused refusal.Room) ≡ record { refusal = 10; value = 0; x = pos 0; y = pos 0 }
+  pub unwritten : written_reply (Err refusal.Room) ≡ record { refusal = 10; value = 0; x = pos 0; y = pos 0 }
   -- clear and not clear exchanged, the leg lost or told as clear, or a refusal told as not clear
-  pub checked : (check_reply (Checked.Judged true None) ≡ record { refusal = 0; clear = 1; bent = 0; x = pos 0; y = pos 0 })
-      × (check_reply (Checked.Judged false (Leg 2)) ≡ record { refusal = 0; clear = 0; bent = 2; x = pos 0; y = pos 0 })
-      × (check_reply (Checked.Refused refusal.List) ≡ record { refusal = 13; clear = 0; bent = 0; x = pos 0; y = pos 0 })
-      × (check_reply (Checked.Refused (refusal.BadPoint there)) ≡ record { refusal = 14; clear = 0; bent = 0; x = pos 5; y = pos 7 })
+  pub checked : (check_reply (Ok (judged true None)) ≡ record { refusal = 0; clear = 1; bent = 0; x = pos 0; y = pos 0 })
+      × (check_reply (Ok (judged false (Some 2))) ≡ record { refusal = 0; clear = 0; bent = 2; x = pos 0; y = pos 0 })
+      × (check_reply (Err refusal.List) ≡ record { refusal = 13; clear = 0; bent = 0; x = pos 0; y = pos 0 })
+      × (check_reply (Err (refusal.BadPoint there)) ≡ record { refusal = 14; clear = 0; bent = 0; x = pos 5; y = pos 7 })

@@ -1,6 +1,6 @@
 -- Worked examples of jumps and expansions, on grids of a few cells: each states the right answer where a likely mistake gives another.
 -- Assumes nothing: these are statements.
-use Rattle.std.specs.Prelude.{◌≡◌, Bool, true, false, List, [], ◌∷◌, ℕ, ◌+◌, ◌%◌, ℤ, pos, replicate}
+use Rattle.std.specs.Prelude.{◌≡◌, Bool, true, false, Some, None, List, [], ◌∷◌, ℕ, ◌+◌, ◌%◌, ℤ, pos, replicate}
 use Rattle.points.specs.declared.Point.{Point}
 use Rattle.points.specs.declared.Refusal.TheVariants.{Depth, Fringe, Same}
 use Rattle.masks.specs.Masks.{has_bit}
@@ -12,12 +12,10 @@ use Rattle.goals.specs.declared.Goal.TheVariants.{Exact, Near, Several}
 use Rattle.goals.specs.Goals.{point_of, goal_at}
 use Rattle.offers.specs.Search.{Out, ok, no, onward, begin}
 use Rattle.stops.specs.declared.Cell.{Cell}
-use Rattle.stops.specs.declared.Jump.TheVariants as Jump
-use Rattle.stops.specs.Stops.{target_in, number_of, spot_of, byte_at, free_at, stops_at, price_of}
+use Rattle.stops.specs.Stops.{landing, target_in, number_of, spot_of, byte_at, free_at, stops_at, price_of}
 use Rattle.looks.specs.Looks.{reach_of, sees_on}
 use Rattle.jumps.specs.Jumps.{halts_at, jump_of}
 use Rattle.starts.specs.Start.{toward_of}
-use Rattle.successors.specs.declared.Parent.TheVariants.{Node, Nothing}
 use Rattle.successors.specs.Successors.{parent_of, Clear, again_at, give_of}
 use Rattle.expansion.specs.Expand.{Tables, tables, expand_at}
 use Rattle.expansion.specs.Start.{yield_of}
@@ -116,11 +114,11 @@ pub record Jumps : Type 0 where
   -- a cell that is forced for one direction stops no other
   pub forced_for_its_direction : (stops_at (16 ∷ 0 ∷ []) none (plan 2 1 (point 1 0) (point 1 0)) 4 1 1 ≡ true) × (stops_at (16 ∷ 0 ∷ []) none (plan 2 1 (point 1 0) (point 1 0)) 0 1 1 ≡ false)
   -- a jump stops at the goal, two cells on, and does not pass it
-  pub stops_at_the_goal : jump_of (zeros 4) (zeros 4) none (plan 4 1 (point 0 0) (point 2 0)) 2 (cell 0 0) 70 ≡ Jump.At (cell 2 0) 140
+  pub stops_at_the_goal : jump_of (zeros 4) (zeros 4) none (plan 4 1 (point 0 0) (point 2 0)) 2 (cell 0 0) 70 ≡ Some (landing (cell 2 0) 140)
   -- it finds nothing on leaving free cells, at the edge and before a blocked cell: it does not invent the last cell
-  pub nothing_beyond : (jump_of (zeros 3) (zeros 3) none (plan 3 1 (point 0 0) (point 0 0)) 2 (cell 0 0) 70 ≡ Jump.Nothing) × (jump_of (0 ∷ 0 ∷ 1 ∷ 0 ∷ []) (zeros 4) none row_plan 2 (cell 0 0) 70 ≡ Jump.Nothing)
+  pub nothing_beyond : (jump_of (zeros 3) (zeros 3) none (plan 3 1 (point 0 0) (point 0 0)) 2 (cell 0 0) 70 ≡ None) × (jump_of (0 ∷ 0 ∷ 1 ∷ 0 ∷ []) (zeros 4) none row_plan 2 (cell 0 0) 70 ≡ None)
   -- the first step is at the caller's price, 99, and not at its own, 70; the second at its own
-  pub first_step_by_travel : jump_of (zeros 3) (zeros 3) none (plan 3 1 (point 0 0) (point 2 0)) 2 (cell 0 0) 99 ≡ Jump.At (cell 2 0) 169
+  pub first_step_by_travel : jump_of (zeros 3) (zeros 3) none (plan 3 1 (point 0 0) (point 2 0)) 2 (cell 0 0) 99 ≡ Some (landing (cell 2 0) 169)
   -- of 3 by 4 cells, ahead of the second column and the second row lie 1 to the right, 2 below, and on the slant as many as on the shorter side
   pub cells_ahead : (reach_of 2 1 3 4 2 2 ≡ 1) × ((reach_of 1 2 3 4 2 2 ≡ 2) × (reach_of 2 2 3 4 2 2 ≡ 1))
   -- a straight jump is followed to the last cell of a row
@@ -140,7 +138,7 @@ pub record Jumps : Type 0 where
   pub neighbours_left_out : (cells_of (toward_of (zeros 4) none (plan_in (settings false 64) 2 2 (point 0 0) (point 1 1)) 0 0 3 (begin 5 0)) ≡ 0 ∷ [])
       × (cells_of (toward_of (0 ∷ 1 ∷ 0 ∷ 0 ∷ []) none (plan 2 2 (point 0 0) (point 1 1)) 0 0 2 (begin 5 0)) ≡ 0 ∷ [])
   -- the start has no parent; any other node has the recorded one, not the node before it
-  pub recorded_parent : (parent_of (5 ∷ 6 ∷ []) 0 ≡ Nothing) × (parent_of (5 ∷ 6 ∷ []) 1 ≡ Node 6)
+  pub recorded_parent : (parent_of (5 ∷ 6 ∷ []) 0 ≡ None) × (parent_of (5 ∷ 6 ∷ []) 1 ≡ Some 6)
   -- of the directions 0 and 2 the next from 1 on is 2: it is not passed over, and 1 is not taken for one
   pub not_passed_over : Clear 5 1 3 → ⊥
   pub not_of_the_mask : has_bit 5 (1 % 8) ≡ false

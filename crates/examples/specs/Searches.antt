@@ -1,7 +1,8 @@
 -- Whole searches, and the steps that they are made of, at small inputs: each answer is the definition's, and each line says what it rules out.
 -- Assumes nothing.
-use Rattle.std.specs.Prelude.{◌≡◌, true, false, List, [], ◌∷◌, ℕ, ltb, ℤ, pos, negsuc, replicate, get_or, set}
+use Rattle.std.specs.Prelude.{◌≡◌, true, false, Result, Ok, Err, List, [], ◌∷◌, ℕ, ltb, ℤ, pos, negsuc, replicate, get_or, set}
 use Rattle.points.specs.declared.Point.{Point}
+use Rattle.points.specs.declared.Refusal.{Refusal}
 use Rattle.points.specs.declared.Refusal.TheVariants as refusal
 use Rattle.costs.specs.declared.Settings.{Settings}
 use Rattle.costs.specs.Scale.{one}
@@ -16,9 +17,8 @@ use Rattle.offers.specs.Search.{Reply, state, ok, no, place_point, offer_of, beg
 use Rattle.plans.specs.declared.Lengths.{Lengths}
 use Rattle.plans.specs.Plans.{ready_of, kind_of, plan_of}
 use Rattle.finder.specs.declared.Answer.{Answer}
-use Rattle.finder.specs.declared.Outcome.{Outcome}
-use Rattle.finder.specs.declared.Outcome.TheVariants.{Found, Refused}
-use Rattle.finder.specs.Find.{early, answer_of, out_after}
+use Rattle.finder.specs.declared.Found.{Found}
+use Rattle.finder.specs.Find.{found_of, early, answer_of, out_after}
 use Rattle.grid.specs.declared.Grid.{Grid}
 use Rattle.grid.specs.Grids.{new_grid, rebuild_grid, edit_grid}
 use Rattle.waypoints.specs.Waypoints.{single_of, several_of, single_plan, several_plan}
@@ -65,7 +65,7 @@ single g s start goal = single_of g s most false start goal
 abbrev pub several : Grid → Settings → Point → List ℤ → Reply
 several g s start goals = several_of g s most start goals
 
-abbrev pub told : ℕ → Outcome → Answer
+abbrev pub told : ℕ → Result Found Refusal → Answer
 told pops o = record { pops = pops; outcome = o }
 
 -- an output that holds 9 everywhere
@@ -80,35 +80,35 @@ route g start goal n = out_after (nines n) (single_plan g new_settings false sta
 
 pub record Searches : Type 0 where
   -- found, with three pops: no search that always refuses, no other count of pops
-  pub found : answer_of 8 (single free3 new_settings (spot 0 0) (spot 2 0)) ≡ told 3 (Found 3 140)
+  pub found : answer_of 8 (single free3 new_settings (spot 0 0) (spot 2 0)) ≡ told 3 (Ok (found_of 3 140))
   -- its waypoints from the start, the rest kept: not all of them at the start
   pub written : route free3 (spot 0 0) (spot 2 0) 8 ≡ pos 0 ∷ pos 0 ∷ pos 1 ∷ pos 0 ∷ pos 2 ∷ pos 0 ∷ pos 9 ∷ pos 9 ∷ []
   -- the way back is another list: no fixed waypoints, start and goal not swapped
   pub written_back : route free3 (spot 2 0) (spot 0 0) 6 ≡ pos 2 ∷ pos 0 ∷ pos 1 ∷ pos 0 ∷ pos 0 ∷ pos 0 ∷ []
   -- ROOM for one point less, with the pops, and nothing written
-  pub room_short : answer_of 5 (single free3 new_settings (spot 0 0) (spot 2 0)) ≡ told 3 (Refused refusal.Room)
+  pub room_short : answer_of 5 (single free3 new_settings (spot 0 0) (spot 2 0)) ≡ told 3 (Err refusal.Room)
   pub room_kept : route free3 (spot 0 0) (spot 2 0) 5 ≡ nines 5
   -- the last pop allowed may find the goal, and room for just so many points is enough: no pop counted before, and no point more
-  pub pops_enough : answer_of 6 (single free3 (limits 3 8192) (spot 0 0) (spot 2 0)) ≡ told 3 (Found 3 140)
+  pub pops_enough : answer_of 6 (single free3 (limits 3 8192) (spot 0 0) (spot 2 0)) ≡ told 3 (Ok (found_of 3 140))
   -- POPS where another is needed, not one pop more; and before ROOM
-  pub pops_spent : answer_of 0 (single free3 (limits 1 8192) (spot 0 0) (spot 2 0)) ≡ told 1 (Refused refusal.Pops)
+  pub pops_spent : answer_of 0 (single free3 (limits 1 8192) (spot 0 0) (spot 2 0)) ≡ told 1 (Err refusal.Pops)
   -- FRINGE at the second of two successors, not one entry more; and before ROOM
-  pub fringe_spent : answer_of 0 (single free3 (limits 9 1) (spot 1 0) (spot 2 0)) ≡ told 1 (Refused refusal.Fringe)
+  pub fringe_spent : answer_of 0 (single free3 (limits 9 1) (spot 1 0) (spot 2 0)) ≡ told 1 (Err refusal.Fringe)
   -- EXHAUSTED with the start's pop, though the ends share a component; and before POPS, where no other pop is allowed, and ROOM
-  pub exhausted : answer_of 0 (single gap3 (limits 1 8192) (spot 0 0) (spot 2 0)) ≡ told 1 (Refused refusal.Exhausted)
+  pub exhausted : answer_of 0 (single gap3 (limits 1 8192) (spot 0 0) (spot 2 0)) ≡ told 1 (Err refusal.Exhausted)
   -- a new grid has singleton components: NO_ROUTE before any pop, and before ROOM
-  pub no_route : answer_of 0 (single new2 new_settings (spot 0 0) (spot 1 0)) ≡ told 0 (Refused refusal.NoRoute)
+  pub no_route : answer_of 0 (single new2 new_settings (spot 0 0) (spot 1 0)) ≡ told 0 (Err refusal.NoRoute)
   -- rebuilt, the goal is found with two pops
-  pub rebuilt : answer_of 4 (single free2 new_settings (spot 0 0) (spot 1 0)) ≡ told 2 (Found 2 70)
+  pub rebuilt : answer_of 4 (single free2 new_settings (spot 0 0) (spot 1 0)) ≡ told 2 (Ok (found_of 2 70))
   -- a start that is the goal is one waypoint, even blocked; an approximate search asks its neighbours
-  pub start_is_goal : answer_of 2 (single shut2 new_settings (spot 0 0) (spot 0 0)) ≡ told 1 (Found 1 0)
-  pub approximate : answer_of 2 (single_of new2 new_settings most true (spot 0 0) (spot 0 0)) ≡ told 0 (Refused refusal.NoRoute)
+  pub start_is_goal : answer_of 2 (single shut2 new_settings (spot 0 0) (spot 0 0)) ≡ told 1 (Ok (found_of 1 0))
+  pub approximate : answer_of 2 (single_of new2 new_settings most true (spot 0 0) (spot 0 0)) ≡ told 0 (Err refusal.NoRoute)
   -- an approximate goal is reached one step before it, and not at the point itself (2 pops, 70)
-  pub near_enough : answer_of 2 (single_of free2 new_settings most true (spot 0 0) (spot 1 0)) ≡ told 1 (Found 1 0)
+  pub near_enough : answer_of 2 (single_of free2 new_settings most true (spot 0 0) (spot 1 0)) ≡ told 1 (Ok (found_of 1 0))
   -- several goals ask no component: found on the new grid
-  pub unasked : answer_of 4 (several new2 new_settings (spot 0 0) (pos 1 ∷ pos 0 ∷ [])) ≡ told 2 (Found 2 70)
+  pub unasked : answer_of 4 (several new2 new_settings (spot 0 0) (pos 1 ∷ pos 0 ∷ [])) ≡ told 2 (Ok (found_of 2 70))
   -- so a start outside the grid may search, and is the first waypoint
-  pub from_outside : answer_of 6 (several free2 new_settings outside (pos 1 ∷ pos 0 ∷ [])) ≡ told 3 (Found 3 140)
+  pub from_outside : answer_of 6 (several free2 new_settings outside (pos 1 ∷ pos 0 ∷ [])) ≡ told 3 (Ok (found_of 3 140))
   pub outside_first : out_after (nines 6) (several_plan free2 new_settings outside (pos 1 ∷ pos 0 ∷ [])) (several free2 new_settings outside (pos 1 ∷ pos 0 ∷ [])) ≡ negsuc 0 ∷ pos 0 ∷ pos 0 ∷ pos 0 ∷ pos 1 ∷ pos 0 ∷ []
 
 -- ---- their steps
@@ -161,7 +161,7 @@ pub record Steps : Type 0 where
   -- a search begins with the start alone, at no cost: not with another place, and with no number left from before
   pub start_alone : begin 2 1 ≡ state (record { number = 0 ∷ 1 ∷ []; place = 1 ∷ []; parent = 0 ∷ []; cost = 0 ∷ []; count = 1 }) (entry (key_of 0 0) 0 ∷ []) 1
   -- a refusal before searching has no pop
-  pub no_pop : early refusal.State ≡ told 0 (Refused refusal.State)
+  pub no_pop : early refusal.State ≡ told 0 (Err refusal.State)
   -- working room for just so many places and entries is enough; one place or one entry less is SETTING
   pub room_tested : (ready_of new_settings (room 3 8192) 3 ≡ true) × (ready_of new_settings (room 2 8192) 3 ≡ false) × (ready_of new_settings (room 3 8191) 3 ≡ false)
   -- an approximate goal is near the point, any other is the point: not the other way round

@@ -1,6 +1,6 @@
 -- Worked examples of a grid's tables: the right answer of a definition that a contract cites, where the mistake that the comment names would give another.
 -- A grid of 2 by 1 has the cells 0 and 1. Direction 0 is up, 2 is right, 4 is down, 6 is left. Assumes nothing.
-use Rattle.std.specs.Prelude.{◌≡◌, Bool, true, false, not, List, [], ◌∷◌, ℕ, eqb, pos, negsuc, replicate, set}
+use Rattle.std.specs.Prelude.{◌≡◌, Bool, true, false, not, List, [], ◌∷◌, ℕ, eqb, pos, negsuc, replicate, set, Ok, Err}
 use Rattle.points.specs.declared.Point.{Point}
 use Rattle.points.specs.declared.Refusal.TheVariants.{Size, State, BadPoint}
 use Rattle.components.specs.Components.{Links, root_of, halve, united}
@@ -12,10 +12,6 @@ use Rattle.joins.specs.Joins.{around, joined_to}
 use Rattle.tables.specs.Tables.{Tables, new_of, edit_of, rebuild_of, update_of}
 use Rattle.questions.specs.Questions.{reachable_of, near_of, neighbours_reachable_of, neighbours_unreachable_of}
 use Rattle.grid.specs.declared.Grid.{Grid}
-use Rattle.grid.specs.declared.Outcome.TheVariants.{Done, Refused}
-use Rattle.grid.specs.declared.Component.TheVariants as Component
-use Rattle.grid.specs.declared.Mask.TheVariants as Mask
-use Rattle.grid.specs.declared.Verdict.TheVariants as Verdict
 use Rattle.grid.specs.Grids.{legal_of, new_outcome, set_outcome, rebuild_outcome, update_outcome}
 use Rattle.grid.specs.Questions.{component_at, neighbour_mask_at, forced_mask_at, pruned_mask_at, reachable_from, unreachable_from, neighbours_reachable_from, neighbours_unreachable_from}
 use Rattle.demand.specs.Walks.{Step}
@@ -178,38 +174,38 @@ at x y = record { x = pos x; y = pos y }
 -- the public calls on a grid
 pub record Grids : Type 0 where
   -- no refusal, or a grid of 1 by 2 with it
-  pub size_refused : (new_outcome 65 1).outcome ≡ Refused Size
+  pub size_refused : (new_outcome 65 1).outcome ≡ Err Size
   pub size_1 : ((new_outcome 65 1).grid.width ≡ 1) × ((new_outcome 65 1).grid.height ≡ 1)
   -- one row tested for all, or the sides untested
   pub second_row : legal_of broken ≡ false
   pub sides_tested : legal_of thin ≡ false
   -- a refusal that changes the grid: STATE and POINT hand it back
-  pub edit_refused : (set_outcome broken true (at 0 0) true ≡ record { outcome = Refused State; grid = broken }) × (set_outcome pair true (at 2 0) true ≡ record { outcome = Refused (BadPoint (at 2 0)); grid = pair })
-  pub rebuild_refused : (rebuild_outcome broken true ≡ record { outcome = Refused State; grid = broken }) × (update_outcome broken true ≡ record { outcome = Refused State; grid = broken })
+  pub edit_refused : (set_outcome broken true (at 0 0) true ≡ record { outcome = Err State; grid = broken }) × (set_outcome pair true (at 2 0) true ≡ record { outcome = Err (BadPoint (at 2 0)); grid = pair })
+  pub rebuild_refused : (rebuild_outcome broken true ≡ record { outcome = Err State; grid = broken }) × (update_outcome broken true ≡ record { outcome = Err State; grid = broken })
   -- the mark left
   pub mark_cleared : ((rebuild_outcome pair true).grid.dirty ≡ false) × ((update_outcome pair true).grid.dirty ≡ false)
   -- a clean grid rebuilt by an update (0 ∷ 0)
-  pub clean_kept : update_outcome clean true ≡ record { outcome = Done; grid = clean }
+  pub clean_kept : update_outcome clean true ≡ record { outcome = Ok tt; grid = clean }
   -- the component of cell 0
-  pub component_there : component_at pair (at 1 0) ≡ Component.Is 1
+  pub component_there : component_at pair (at 1 0) ≡ Ok 1
   -- neighbours for forced, and the other way round
-  pub forced_read : forced_mask_at pair (at 1 0) ≡ Mask.Is 8
-  pub neighbours_read : neighbour_mask_at pair (at 1 0) ≡ Mask.Is 64
+  pub forced_read : forced_mask_at pair (at 1 0) ≡ Ok 8
+  pub neighbours_read : neighbour_mask_at pair (at 1 0) ≡ Ok 64
   -- the setting unread
-  pub setting_read_lem : (pruned_mask_at pair true (at 0 0) 2 ≡ Mask.Is 4) × (pruned_mask_at pair false (at 0 0) 2 ≡ Mask.Is 21)
+  pub setting_read_lem : (pruned_mask_at pair true (at 0 0) 2 ≡ Ok 4) × (pruned_mask_at pair false (at 0 0) 2 ≡ Ok 21)
   -- yes for no, and no for yes
-  pub no_said : reachable_from pair (at 0 0) (at 1 0) ≡ Verdict.No
-  pub yes_said : unreachable_from pair (at 0 0) (at 1 0) ≡ Verdict.Yes
+  pub no_said : reachable_from pair (at 0 0) (at 1 0) ≡ Ok false
+  pub yes_said : unreachable_from pair (at 0 0) (at 1 0) ≡ Ok true
   -- the neighbour questions' answers turned round, and the goal asked in place of its neighbours: (0,0) is beside (1,0), and not beside itself
-  pub near_said : (neighbours_reachable_from pair true (at 0 0) (at 1 0) ≡ Verdict.Yes) × (neighbours_reachable_from pair true (at 0 0) (at 0 0) ≡ Verdict.No)
-  pub far_said : (neighbours_unreachable_from pair true (at 0 0) (at 1 0) ≡ Verdict.No) × (neighbours_unreachable_from pair true (at 0 0) (at 0 0) ≡ Verdict.Yes)
+  pub near_said : (neighbours_reachable_from pair true (at 0 0) (at 1 0) ≡ Ok true) × (neighbours_reachable_from pair true (at 0 0) (at 0 0) ≡ Ok false)
+  pub far_said : (neighbours_unreachable_from pair true (at 0 0) (at 1 0) ≡ Ok false) × (neighbours_unreachable_from pair true (at 0 0) (at 0 0) ≡ Ok true)
   -- other answers than document 01's where the goal is outside, or the start: reachable no, the others yes; a point outside read as a cell would give the other answer
   pub goal_outside :
-      (reachable_from pair (at 0 0) (at 2 0) ≡ Verdict.No) × (unreachable_from pair (at 0 0) (at 2 0) ≡ Verdict.Yes)
-      × (neighbours_reachable_from pair false (at 1 0) (at 2 0) ≡ Verdict.Yes) × (neighbours_unreachable_from pair false (at 0 0) (at 2 0) ≡ Verdict.Yes)
+      (reachable_from pair (at 0 0) (at 2 0) ≡ Ok false) × (unreachable_from pair (at 0 0) (at 2 0) ≡ Ok true)
+      × (neighbours_reachable_from pair false (at 1 0) (at 2 0) ≡ Ok true) × (neighbours_unreachable_from pair false (at 0 0) (at 2 0) ≡ Ok true)
   pub start_outside :
-      (reachable_from pair (at 0 1) (at 0 0) ≡ Verdict.No) × (unreachable_from pair (at 0 1) (at 0 0) ≡ Verdict.Yes)
-      × (neighbours_reachable_from pair false (at 0 1) (at 0 0) ≡ Verdict.Yes) × (neighbours_unreachable_from pair false (at 0 1) (at 1 0) ≡ Verdict.Yes)
+      (reachable_from pair (at 0 1) (at 0 0) ≡ Ok false) × (unreachable_from pair (at 0 1) (at 0 0) ≡ Ok true)
+      × (neighbours_reachable_from pair false (at 0 1) (at 0 0) ≡ Ok true) × (neighbours_unreachable_from pair false (at 0 1) (at 1 0) ≡ Ok true)
 
 -- the moves of demand 3's walks
 pub record Moves : Type 0 where

@@ -8,9 +8,9 @@ use native.Mathlib.Omega.{arith}
 use lib.ListN.{length}
 use Rattle.bends.specs.Bends.{way_of}
 use Rattle.headings.specs.Headings.{heading_of}
-use Rattle.bends.specs.declared.Way.{Way}
-use Rattle.bends.specs.declared.Way.TheVariants.{Along, Still}
+use Rattle.std.specs.Prelude.{Option, Some, None}
 use Rattle.points.specs.declared.Point.{Point}
+use Rattle.points.specs.declared.Direction.{Direction}
 use Rattle.points.specs.declared.Refusal.TheVariants.{Depth, Same}
 use Rattle.masks.specs.Masks.{has_bit}
 use Rattle.goals.specs.declared.Plan.{Plan}
@@ -21,7 +21,7 @@ use Rattle.offers.proofs.Laws.{area_is}
 use Rattle.offers.proofs.Good.{same_ok, never_no, offer_fit, offer_floor, each_keeps}
 use Rattle.stops.specs.declared.Cell.{Cell}
 use Rattle.stops.specs.declared.Jump.{Jump}
-use Rattle.stops.specs.declared.Jump.TheVariants.{At, Nothing}
+use Rattle.std.specs.Prelude.{Option, Some, None}
 use Rattle.stops.specs.Stops.{Inside, spot_of, number_of, price_of}
 use Rattle.jumps.specs.Jumps.{jump_of}
 use Rattle.stops.proofs.Laws.{place_lt}
@@ -45,8 +45,10 @@ module _ (t : Tables) (p : Plan) (from : ℕ) (P : State → Type 0) (lo hi side
   Deep deeper m = (above : Point) (c : Cell) (k : ℕ) (s u : State) → Inside p c → lo ≤ k → k + m * ((side - 1) * 99) ≤ hi → P s → deeper above c k s ≡ ok u → P u
 
   module _ (deeper : Point → Cell → ℕ → State → Out) (m : ℕ) (deep : Deep deeper m) (above : Point) (node : Cell) (inside : Inside p node) (price base : ℕ) (h0 : 0 < price) (h1 : price ≤ 99) (h2 : lo ≤ base) (h3 : base + (m + 1) * ((side - 1) * 99) ≤ hi) where
-    reached_keeps : (e : ℕ) (s u : State) (j : Jump) → jump_of t.blocked t.forced t.goals p e node price ≡ j → P s → reached t p from (deeper above) base e s j ≡ ok u → P u
-    reached_keeps e s u (At c k) q x r =
+    reached_keeps : (e : ℕ) (s u : State) (j : Option Jump) → jump_of t.blocked t.forced t.goals p e node price ≡ j → P s → reached t p from (deeper above) base e s j ≡ ok u → P u
+    reached_keeps e s u (Some j) q x r =
+        let c = j.cell in
+        let k = j.cost in
         let f = jump_found t.blocked t.forced t.goals p side e node price c k wide high inside h1 q in
         let a : lo ≤ base + k = omega arith in
         let b : base + k + m * ((side - 1) * 99) ≤ hi = omega (arith, f.most, more m ((side - 1) * 99)) in
@@ -56,7 +58,7 @@ module _ (t : Tables) (p : Plan) (from : ℕ) (P : State → Type 0) (lo hi side
         (deep above c (base + k) s u f.inside a b x)
         (keep c (base + k) s u f.inside d v x)
         r
-    reached_keeps e s u Nothing q x r = subst P (same_ok s u r) x
+    reached_keeps e s u None q x r = subst P (same_ok s u r) x
 
     pub follow_keeps : (mask e : ℕ) (s u : State) → P s → follow_with t p from deeper above node mask price base e s ≡ ok u → P u
     unfolding follow_with
@@ -67,12 +69,12 @@ module _ (t : Tables) (p : Plan) (from : ℕ) (P : State → Type 0) (lo hi side
         r
 
   travel_keeps : (deeper : Point → Cell → ℕ → State → Out) (m : ℕ) → Deep deeper m → (above : Point) (c : Cell) (k : ℕ) (s u : State) → Inside p c → lo ≤ k → k + (m + 1) * ((side - 1) * 99) ≤ hi → P s
-      → (g : Way) → travelled t p (follow_with t p from deeper) above c k s g ≡ ok u → P u
-  travel_keeps deeper m deep above c k s u i a b x (Along d) r =
+      → (g : Option Direction) → travelled t p (follow_with t p from deeper) above c k s g ≡ ok u → P u
+  travel_keeps deeper m deep above c k s u i a b x (Some d) r =
       let l : 0 < price_of d.number = omega arith in
       let n : price_of d.number ≤ 99 = omega arith in
       each_keeps _ P (λ e v w he y z. follow_keeps deeper m deep above c i (price_of d.number) k l n a b _ e v w y z) 8 0 s u (le_refl 8) x r
-  travel_keeps deeper m deep above c k s u i a b x Still r = never_no (Same above) u r
+  travel_keeps deeper m deep above c k s u i a b x None r = never_no (Same above) u r
 
   expand_with_lem : (deeper : Point → Cell → ℕ → State → Out) (m : ℕ) → Deep deeper m → Deep (expand_with t p (follow_with t p from deeper)) (m + 1)
   unfolding expand_with

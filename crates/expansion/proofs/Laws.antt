@@ -5,7 +5,7 @@ use Prim.Native.Nat.{ℕ, zero, suc, ◌+◌, ◌-◌, ◌%◌}
 use native.Mathlib.Omega.{arith}
 use Rattle.bends.specs.Bends.{way_of}
 use Rattle.headings.specs.Headings.{heading_of}
-use Rattle.bends.specs.declared.Way.TheVariants.{Along, Still}
+use Rattle.std.specs.Prelude.{Some, None}
 use Rattle.points.specs.declared.Point.{Point}
 use Rattle.points.specs.declared.Direction.{Direction}
 use Rattle.points.specs.declared.Refusal.TheVariants.{Depth, Same}
@@ -14,8 +14,8 @@ use Rattle.goals.specs.declared.Plan.{Plan}
 use Rattle.offers.specs.Search.{State, Out, ok, no, each}
 use Rattle.stops.specs.declared.Cell.{Cell}
 use Rattle.stops.specs.declared.Jump.{Jump}
-use Rattle.stops.specs.declared.Jump.TheVariants.{At, Nothing}
-use Rattle.stops.specs.Stops.{spot_of, byte_at, price_of}
+use Rattle.std.specs.Prelude.{Option, Some, None}
+use Rattle.stops.specs.Stops.{landing, spot_of, byte_at, price_of}
 use Rattle.jumps.specs.Jumps.{jump_of}
 use Rattle.successors.specs.Successors.{again_at, give_of}
 use Rattle.expansion.specs.Expand.{Tables, reached, follow_with, expand_with, deeper_at, expand_at}
@@ -30,11 +30,11 @@ module _ (t : Tables) (p : Plan) (from : ℕ) (deeper : Point → Cell → ℕ �
   unfolding follow_with
   follow_on b = rw b
 
-module _ (t : Tables) (p : Plan) (from : ℕ) (deeper : Cell → ℕ → State → Out) (base e : ℕ) (s : State) (j : Jump) where
-  pub reached_none : Nothing ≡ j → ok s ≡ reached t p from deeper base e s j
+module _ (t : Tables) (p : Plan) (from : ℕ) (deeper : Cell → ℕ → State → Out) (base e : ℕ) (s : State) (j : Option Jump) where
+  pub reached_none : None ≡ j → ok s ≡ reached t p from deeper base e s j
   reached_none z = rw (← z)
 
-  module _ (c : Cell) (k : ℕ) (z : At c k ≡ j) where
+  module _ (c : Cell) (k : ℕ) (z : Some (landing c k) ≡ j) where
     pub reached_give : again_at t.forced t.goals p e c ≡ false → give_of t.goals p from c (base + k) s ≡ reached t p from deeper base e s j
     reached_give a = rw (← z, a)
 
@@ -53,7 +53,7 @@ module _ (t : Tables) (p : Plan) (from : ℕ) (above : Point) (c : Cell) (k : �
   deeper_more (suc m) f = let z : suc m - 1 ≡ m = omega arith in rw z
 
 -- following a direction whose jump found a cell
-module _ (t : Tables) (p : Plan) (from depth : ℕ) (above : Point) (base e : ℕ) (s : State) (j : Jump) (c : Cell) (k : ℕ) (z : At c k ≡ j) (again : Bool) (a : again ≡ again_at t.forced t.goals p e c) where
+module _ (t : Tables) (p : Plan) (from depth : ℕ) (above : Point) (base e : ℕ) (s : State) (j : Option Jump) (c : Cell) (k : ℕ) (z : Some (landing c k) ≡ j) (again : Bool) (a : again ≡ again_at t.forced t.goals p e c) where
   pub found_none : depth ≡ 0 → again ≡ true → no Depth ≡ reached t p from (deeper_at t p from depth above) base e s j
   found_none m q = deeper_none t p from above c (base + k) s depth m ∙ reached_deep t p from (deeper_at t p from depth above) base e s j c k z (sym a ∙ q)
 
@@ -65,11 +65,11 @@ module _ (t : Tables) (p : Plan) (from depth : ℕ) (above : Point) (base e : �
 
 -- expanding a cell
 module _ (t : Tables) (p : Plan) (along : Point → Cell → ℕ → ℕ → ℕ → ℕ → State → Out) (above : Point) (node : Cell) (base : ℕ) (s : State) where
-  pub expand_same : Still ≡ way_of (heading_of above (spot_of node.x node.y)) → no (Same above) ≡ expand_with t p along above node base s
+  pub expand_same : None ≡ way_of (heading_of above (spot_of node.x node.y)) → no (Same above) ≡ expand_with t p along above node base s
   unfolding expand_with
   expand_same e = rw (← e)
 
-  pub expand_each : (d : Direction) (mask price : ℕ) → Along d ≡ way_of (heading_of above (spot_of node.x node.y))
+  pub expand_each : (d : Direction) (mask price : ℕ) → Some d ≡ way_of (heading_of above (spot_of node.x node.y))
       → mask ≡ pruned_in p.settings.diagonal (d.number % 8) (byte_at t.neighbours p.w node.x node.y) → price ≡ price_of d.number
       → each (along above node mask price base) 8 0 s ≡ expand_with t p along above node base s
   unfolding expand_with

@@ -15,7 +15,7 @@ use Rattle.goals.specs.Goals.{most_side, Aimed}
 use Rattle.nodes.specs.Bound.{Hist, times, edge_of}
 use Rattle.nodes.proofs.Laws.{by_eq, later_refl, later_trans}
 use Rattle.nodes.proofs.History.{hist_later}
-use Rattle.offers.specs.declared.Mark.{Mark}
+use Rattle.offers.specs.declared.Work.{Work}
 use Rattle.offers.specs.Search.{State, ok, view, area_of, place_point, guess_at, Sides, Good, Next, Lent}
 use Rattle.offers.proofs.Laws.{area_is, point_start, point_cell, cell_legal, guess_low}
 use Rattle.offers.proofs.Good.{offer_next}
@@ -40,31 +40,31 @@ cell_inside p c pos l =
     record { left = omega arith; right = omega arith; top = omega arith; low = omega arith }
 
 -- a node's place is at most the area
-pub place_le : (goals : List ℤ) (p : Plan) (number place parent cost keys idx : List ℕ) (m : Mark) (i : ℕ) → Lent goals p number place parent cost keys idx m → i < m.count → get_or place i 0 ≤ area_of p
-place_le goals p number place parent cost keys idx m i a h =
+pub place_le : (goals : List ℤ) (p : Plan) (r : Work) (i : ℕ) → Lent goals p r → i < r.count → get_or r.place.now i 0 ≤ area_of p
+place_le goals p r i a h =
     let s = a.fit.sound in
-    let l : i < length (take m.count place) = omega (arith, s.counts) in
-    omega (arith, get_or-take m.count place i 0 h, s.within i l, a.floor)
+    let l : i < length (take r.count r.place.now) = omega (arith, s.counts) in
+    omega (arith, get_or-take r.count r.place.now i 0 h, s.within i l, a.floor)
 
 -- what the expansion of a node asks, from what the node is
-pub leap_ready : (t : Tables) (p : Plan) (from up k : ℕ) (number place parent cost keys idx : List ℕ) (m : Mark) (above : Point) (node : Cell) → Lent t.goals p number place parent cost keys idx m → Floors t p → T (legal p.start) → from < m.count
-    → up < m.count → get_or place from 0 < area_of p → k + edge_of most_side p.settings.depth < 2 ^ 40
-    → above ≡ place_point p (get_or place up 0) → node ≡ cell_of p.w (get_or place from 0) → Ready t p from above node k p.settings.depth number place parent cost keys idx m
-leap_ready t p from up k number place parent cost keys idx m above node a f g h b c l e d =
+pub leap_ready : (t : Tables) (p : Plan) (from up k : ℕ) (r : Work) (above : Point) (node : Cell) → Lent t.goals p r → Floors t p → T (legal p.start) → from < r.count
+    → up < r.count → get_or r.place.now from 0 < area_of p → k + edge_of most_side p.settings.depth < 2 ^ 40
+    → above ≡ place_point p (get_or r.place.now up 0) → node ≡ cell_of p.w (get_or r.place.now from 0) → Ready t p from above node k p.settings.depth r
+leap_ready t p from up k r above node a f g h b c l e d =
     record {
       floors = f;
       lent = a;
-      seen = subst (λ (z : Point). T (legal z)) (sym e) (above_legal p _ a.sides g (place_le t.goals p number place parent cost keys idx m _ a b));
+      seen = subst (λ (z : Point). T (legal z)) (sym e) (above_legal p _ a.sides g (place_le t.goals p r _ a b));
       inside = subst (λ (z : Cell). Inside p z) (sym d) (cell_inside p _ a.sides.wide c);
       known = omega (arith, a.counted);
       cheap = l;
     }
 
-pub leap_is : (t : Tables) (p : Plan) (from up k : ℕ) (number place parent cost keys idx : List ℕ) (m : Mark) (above : Point) (node : Cell) → from < m.count → up < m.count
-    → above ≡ place_point p (get_or place up 0) → node ≡ cell_of p.w (get_or place from 0)
-    → expand_at t p from p.settings.depth above node k (view number place parent cost keys idx m) ≡ leap_from t p up from k (view number place parent cost keys idx m)
-leap_is t p from up k number place parent cost keys idx m above node h b e d =
-    rw (e, d, get_or-take m.count place up 0 b, get_or-take m.count place from 0 h)
+pub leap_is : (t : Tables) (p : Plan) (from up k : ℕ) (r : Work) (above : Point) (node : Cell) → from < r.count → up < r.count
+    → above ≡ place_point p (get_or r.place.now up 0) → node ≡ cell_of p.w (get_or r.place.now from 0)
+    → expand_at t p from p.settings.depth above node k (view r) ≡ leap_from t p up from k (view r)
+leap_is t p from up k r above node h b e d =
+    rw (e, d, get_or-take r.count r.place.now up 0 b, get_or-take r.count r.place.now from 0 h)
 
 -- over any side: an edge costs at most one jump across it for each level
 module _ (t : Tables) (p : Plan) (n side : ℕ) (aimed : Aimed t.goals p) (sides : Sides p) (wide : p.w ≤ side) (high : p.h ≤ side) (floor : n ≡ area_of p + 1)

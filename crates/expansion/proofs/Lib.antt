@@ -1,5 +1,4 @@
 pub mod Laws
-pub mod Skips
 pub mod Keeps
 mod Turns
 pub mod Leaps

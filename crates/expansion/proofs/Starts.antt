@@ -11,14 +11,14 @@ use Rattle.goals.specs.Goals.{Aimed}
 use Rattle.nodes.specs.Bound.{Hist, times, edge_of}
 use Rattle.nodes.proofs.Laws.{by_eq, later_refl, later_trans}
 use Rattle.nodes.proofs.History.{hist_later}
-use Rattle.offers.specs.declared.Mark.{Mark}
+use Rattle.offers.specs.declared.Work.{Work}
 use Rattle.offers.specs.Search.{State, ok, view, area_of, guess_at, Sides, Good, Next, Keeps}
 use Rattle.offers.proofs.Laws.{guess_low}
 use Rattle.offers.proofs.Good.{offer_next, each_keeps}
 use Rattle.stops.specs.Stops.{price_of}
 use Rattle.starts.specs.Start.{toward_of}
 use Rattle.starts.proofs.Starts.{toward_keeps}
-use Rattle.successors.specs.declared.Parent.TheVariants.{Node}
+use Rattle.std.specs.Prelude.{Some}
 use Rattle.successors.specs.Successors.{parent_of}
 use Rattle.successors.proofs.Laws.{parent_some}
 use Rattle.expansion.specs.Expand.{Tables, leap_from, leap_of}
@@ -36,11 +36,11 @@ yield_leap t p zero k s e = absurd (e refl)
 yield_leap t p (suc i) k s e = refl
 
 -- a node whose parent the slices hold
-pub yield_up : (t : Tables) (p : Plan) (i up k : ℕ) (number place parent cost keys idx : List ℕ) (m : Mark) → i < m.count → Node up ≡ parent_of parent i
-    → leap_from t p up i k (view number place parent cost keys idx m) ≡ yield_of t p i k (view number place parent cost keys idx m)
+pub yield_up : (t : Tables) (p : Plan) (i up k : ℕ) (r : Work) → i < r.count → Some up ≡ parent_of r.parent.now i
+    → leap_from t p up i k (view r) ≡ yield_of t p i k (view r)
 unfolding yield_of
-yield_up t p zero up k number place parent cost keys idx m h e = let z : ◌≡◌ {A = ℕ} 0 1 = cc in absurd (omega arith)
-yield_up t p (suc i) up k number place parent cost keys idx m h e = rw (get_or-take m.count parent (suc i) 0 h, ← (parent_some parent (suc i) up e).1)
+yield_up t p zero up k r h e = let z : ◌≡◌ {A = ℕ} 0 1 = cc in absurd (omega arith)
+yield_up t p (suc i) up k r h e = rw (get_or-take r.count r.parent.now (suc i) 0 h, ← (parent_some r.parent.now (suc i) up e).1)
 
 -- over any side of at least 2, for an outside start's first step
 module _ (t : Tables) (p : Plan) (n side : ℕ) (aimed : Aimed t.goals p) (sides : Sides p) (wide : p.w ≤ side) (high : p.h ≤ side) (two : 2 ≤ side) (floor : n ≡ area_of p + 1)

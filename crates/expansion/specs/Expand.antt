@@ -1,21 +1,20 @@
 -- What expanding a cell offers, by the remaining depth. Assumes nothing: these are definitions.
-use Rattle.std.specs.Prelude.{cond, List, ℕ, zero, suc, ◌+◌, ◌/◌, ◌%◌, ◌^◌, ◌<◌, T, ℤ, length, get_or}
+use Rattle.std.specs.Prelude.{cond, List, Option, Some, None, ℕ, zero, suc, ◌+◌, ◌/◌, ◌%◌, ◌^◌, ◌<◌, T, ℤ, length, get_or}
 use Rattle.points.specs.Plane.{legal}
 use Rattle.bends.specs.Bends.{way_of}
 use Rattle.headings.specs.Headings.{heading_of}
-use Rattle.bends.specs.declared.Way.{Way}
-use Rattle.bends.specs.declared.Way.TheVariants.{Along, Still}
+use Rattle.std.specs.Prelude.{Option, Some, None}
 use Rattle.points.specs.declared.Point.{Point}
+use Rattle.points.specs.declared.Direction.{Direction}
 use Rattle.points.specs.declared.Refusal.TheVariants.{Depth, Same}
 use Rattle.masks.specs.Masks.{has_bit, pruned_in}
 use Rattle.goals.specs.declared.Plan.{Plan}
 use Rattle.goals.specs.Goals.{most_side}
 use Rattle.nodes.specs.Bound.{edge_of}
-use Rattle.offers.specs.declared.Mark.{Mark}
+use Rattle.offers.specs.declared.Work.{Work}
 use Rattle.offers.specs.Search.{State, Out, ok, no, each, area_of, place_point, Lent, Expansion}
 use Rattle.stops.specs.declared.Cell.{Cell}
 use Rattle.stops.specs.declared.Jump.{Jump}
-use Rattle.stops.specs.declared.Jump.TheVariants.{At, Nothing}
 use Rattle.stops.specs.Stops.{Sized, Marked, Inside, spot_of, byte_at, price_of}
 use Rattle.jumps.specs.Jumps.{jump_of}
 use Rattle.successors.specs.Successors.{again_at, give_of}
@@ -38,18 +37,18 @@ pub record Floors (t : Tables) (p : Plan) : Type 0 where
   pub sized_forced : Sized t.forced p.w p.h
 
 -- what expanding a cell asks
-pub record Ready (t : Tables) (p : Plan) (from : ℕ) (above : Point) (node : Cell) (base depth : ℕ) (number place parent cost keys idx : List ℕ) (m : Mark) : Type 0 where
+pub record Ready (t : Tables) (p : Plan) (from : ℕ) (above : Point) (node : Cell) (base depth : ℕ) (r : Work) : Type 0 where
   pub floors : Floors t p
-  pub lent : Lent t.goals p number place parent cost keys idx m
+  pub lent : Lent t.goals p r
   pub seen : T (legal above)
   pub inside : Inside p node
-  pub known : from < length number
+  pub known : from < length r.number.now
   pub cheap : base + edge_of most_side depth < 2 ^ 40
 
 -- what a jump found is expanded again or offered, its cost added; nothing ends the following of that direction
-abbrev pub reached : Tables → Plan → ℕ → (Cell → ℕ → State → Out) → ℕ → ℕ → State → Jump → Out
-reached t p from deeper base e s (At c k) = cond (again_at t.forced t.goals p e c) (deeper c (base + k) s) (give_of t.goals p from c (base + k) s)
-reached t p from deeper base e s Nothing = ok s
+abbrev pub reached : Tables → Plan → ℕ → (Cell → ℕ → State → Out) → ℕ → ℕ → State → Option Jump → Out
+reached t p from deeper base e s (Some j) = cond (again_at t.forced t.goals p e j.cell) (deeper j.cell (base + j.cost) s) (give_of t.goals p from j.cell (base + j.cost) s)
+reached t p from deeper base e s None = ok s
 
 -- one direction from a cell that is reached from the point above: `deeper` says what expanding again does, with the same parent
 unfoldable pub follow_with : Tables → Plan → ℕ → (Point → Cell → ℕ → State → Out) → Point → Cell → ℕ → ℕ → ℕ → ℕ → State → Out
@@ -57,12 +56,12 @@ follow_with t p from deeper above node mask price base e s =
     cond (has_bit mask (e % 8)) (reached t p from (deeper above) base e s (jump_of t.blocked t.forced t.goals p e node price)) (ok s)
 
 -- the pruned directions in number order, first steps priced by the travel direction, straight or bent; SAME if the cell is its own parent
-abbrev pub travelled : Tables → Plan → (Point → Cell → ℕ → ℕ → ℕ → ℕ → State → Out) → Point → Cell → ℕ → State → Way → Out
-travelled t p along above node base s (Along d) =
+abbrev pub travelled : Tables → Plan → (Point → Cell → ℕ → ℕ → ℕ → ℕ → State → Out) → Point → Cell → ℕ → State → Option Direction → Out
+travelled t p along above node base s (Some d) =
     each
     (along above node (pruned_in p.settings.diagonal (d.number % 8) (byte_at t.neighbours p.w node.x node.y)) (price_of d.number) base)
     8 0 s
-travelled t p along above node base s Still = no (Same above)
+travelled t p along above node base s None = no (Same above)
 
 -- a cell: `along` says what following one direction does
 unfoldable pub expand_with : Tables → Plan → (Point → Cell → ℕ → ℕ → ℕ → ℕ → State → Out) → Point → Cell → ℕ → State → Out
@@ -93,6 +92,6 @@ unfoldable pub leap_of : Tables → Plan → Expansion
 leap_of t p i k s = leap_from t p (get_or s.nodes.parent i 0) i k s
 
 -- a node with a parent, on the grid
-pub record Backed (p : Plan) (place parent : List ℕ) (count from : ℕ) : Type 0 where
-  pub back : get_or parent from 0 < count
-  pub landed : get_or place from 0 < area_of p
+pub record Backed (p : Plan) (r : Work) (from : ℕ) : Type 0 where
+  pub back : get_or r.parent.now from 0 < r.count
+  pub landed : get_or r.place.now from 0 < area_of p

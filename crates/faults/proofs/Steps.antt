@@ -1,16 +1,21 @@
 -- The definitions one byte at a time, at a place of the text. Assumes nothing.
-use mathlib.Core.Path.{◌≡◌, refl, ◌∙◌}
-use mathlib.Core.Bool.{true, false}
+use mathlib.Core.Path.{◌≡◌, refl, sym, ap, ◌∙◌}
+use mathlib.Core.Bool.{Bool, true, false, cond, ◌&&◌}
 use mathlib.Core.List.{List, [], ◌∷◌}
-use Prim.Native.Nat.{ℕ, ◌+◌, ◌-◌, ◌≤◌, ◌<◌}
+use Prim.Native.Nat.{ℕ, suc, ◌+◌, ◌-◌, ◌≤◌, ◌<◌}
 use native.Mathlib.Numerals.{add-one}
-use borrow.Author.Tests.{eq-eqb, ne_eqb, lt-ltb, le-ltb, lt-leb, le-leb}
-use lib.ListN.{length, drop, get_or, drop_of_length-le}
-use lib.Seq.{drop-cons, drop-drop}
-use Rattle.lines.specs.Lines.{starts_with}
+use borrow.Author.Tests.{eqb-true, eqb-false, eq-eqb, ne_eqb, lt-ltb, le-ltb, lt-leb, le-leb}
+use lib.ListN.{length, take, drop, get_or, drop_of_length-le}
+use lib.Seq.{drop-cons}
+use lib.Pointwise.{pointwise}
+use lib.Dec.{eqb}
+use native.Mathlib.Omega.{arith}
+use Rattle.text.specs.Grammar.{Num}
+use Rattle.lines.proofs.Laws.{begins}
+use Rattle.lines.specs.Lines.{starts_with, number_line}
 use Rattle.rows.specs.Rows.{row_word, is_cell}
 use Rattle.maps.specs.Maps.{width_word, height_word}
-use Rattle.faults.specs.Faults.{newlines, from_line, said_in, line_fault, counted, cells_fault, row_fault, mark_word, bad_line, fault_at, fault_of}
+use Rattle.faults.specs.Faults.{newlines, from_line, number_in, said_in, line_fault, counted, cells_fault, row_fault, mark_word, bad_line, fault_at, fault_of}
 use Rattle.faults.specs.declared.Fault.{Fault}
 use Rattle.faults.specs.declared.Fault.TheVariants.{TooLong, ByteOrderMark, Missing, CarriageReturn, NoNewline, Form, Letter, TooMany}
 
@@ -66,35 +71,63 @@ module _ (s : List ℕ) (i w k : ℕ) where
   cells_more h d e = rw (drop-cons s i 0 h, ne_eqb (get_or s i 0) 10 d, e, add-one i)
 
 -- ---- a row
-module _ (s : List ℕ) (at w : ℕ) where
-  pub row_other : starts_with row_word (drop at s) ≡ false → row_fault w (drop at s) ≡ Form
-  unfolding row_fault
-  row_other e = rw e
+pub row_other : (s : List ℕ) (w : ℕ) → pointwise eqb (take 4 s) row_word ≡ false → row_fault w s ≡ Form
+unfolding row_fault
+row_other s w e = ap (λ (t : Bool). cond t (cells_fault w 0 (drop 4 s)) Form) (begins row_word s ∙ e)
 
-  pub row_cells : starts_with row_word (drop at s) ≡ true → row_fault w (drop at s) ≡ cells_fault w 0 (drop (at + 4) s)
-  unfolding row_fault
-  row_cells e = rw (e, drop-drop 4 at s)
+pub row_cells : (s : List ℕ) (w : ℕ) → pointwise eqb (take 4 s) row_word ≡ true → (l : List ℕ) → l ≡ drop 4 s → row_fault w s ≡ cells_fault w 0 l
+unfolding row_fault
+row_cells s w e l d = ap (λ (t : Bool). cond t (cells_fault w 0 (drop 4 s)) Form) (begins row_word s ∙ e) ∙ ap (cells_fault w 0) (sym d)
+
+-- ---- the number that a line says
+pub said_is : (word l k : List ℕ) (r : Num) → number_line word 1024 k ≡ r → k ≡ l → number_in r ≡ said_in word l
+unfolding said_in
+said_is word l k r e f = ap number_in (sym e) ∙ ap (λ (m : List ℕ). number_in (number_line word 1024 m)) f
 
 -- ---- the text
+same_byte : (a b : ℕ) → eqb a b ≡ eqb b a
+same_byte a b = go (eqb b a) refl
+  where
+    go : (t : Bool) → eqb b a ≡ t → eqb a b ≡ t
+    go true e = eq-eqb a b (sym (eqb-true b a e))
+    go false e = ne_eqb a b (λ q. eqb-false b a e (sym q))
+
+-- as `starts_with` of a slice answers it
+word_at : (w s : List ℕ) → starts_with w s ≡ pointwise eqb w (take (length w) s)
+word_at [] s = refl
+word_at (b ∷ bs) [] = refl
+word_at (b ∷ bs) (c ∷ cs) = λ i. same_byte c b i && word_at bs cs i
+
 module _ (t : List ℕ) (n : ℕ) where
   pub too_long : n ≡ 0 → fault_of t n ≡ TooLong
   unfolding fault_of
   too_long z = rw (eq-eqb n 0 z)
 
-  pub marked : (n ≡ 0 → ⊥) → starts_with mark_word t ≡ true → fault_of t n ≡ ByteOrderMark
+  pub marked : (n ≡ 0 → ⊥) → pointwise eqb mark_word (take 3 t) ≡ true → fault_of t n ≡ ByteOrderMark
   unfolding fault_of
-  marked z m = rw (ne_eqb n 0 z, m)
+  marked z m = rw (ne_eqb n 0 z, word_at mark_word t ∙ m)
 
-  module _ (at : ℕ) (z : n ≡ 0 → ⊥) (m : starts_with mark_word t ≡ false) (e : drop at t ≡ from_line n t) where
-    from_at : fault_of t n ≡ fault_at t n (drop at t)
+  module _ (l : List ℕ) (z : n ≡ 0 → ⊥) (m : pointwise eqb mark_word (take 3 t) ≡ false) (e : l ≡ from_line n t) where
+    from_at : fault_of t n ≡ fault_at t n l
     unfolding fault_of
-    from_at = rw (ne_eqb n 0 z, m, e)
+    from_at = rw (ne_eqb n 0 z, word_at mark_word t ∙ m, e)
 
-    pub missing : length t ≤ at → fault_of t n ≡ Missing
-    missing h = from_at ∙ rw (drop_of_length-le t h)
+    pub missing : length l ≡ 0 → fault_of t n ≡ Missing
+    missing h = from_at ∙ by l h
+      where
+        by : (k : List ℕ) → length k ≡ 0 → fault_at t n k ≡ Missing
+        by [] h = refl
+        by (b ∷ k) h = absurd (never (length k) h)
+          where
+            never : (j : ℕ) → suc j ≡ 0 → ⊥
+            never j e = omega arith
 
-    pub there : at < length t → fault_of t n ≡ bad_line t n (drop at t)
-    there h = from_at ∙ rw (drop-cons t at 0 h)
+    pub there : (length l ≡ 0 → ⊥) → fault_of t n ≡ bad_line t n l
+    there h = from_at ∙ by l h
+      where
+        by : (k : List ℕ) → (length k ≡ 0 → ⊥) → fault_at t n k ≡ bad_line t n k
+        by [] h = absurd (h refl)
+        by (b ∷ k) h = refl
 
   pub head_line : (l : List ℕ) → n < 6 → bad_line t n l ≡ line_fault Form l
   head_line l h = rw (lt-ltb n 6 h)

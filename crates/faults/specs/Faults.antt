@@ -1,7 +1,6 @@
 -- What is wrong with a map text at the line that its reader refuses. A text is the list of its bytes. Assumes nothing: these are definitions.
-use Rattle.std.specs.Prelude.{cond, List, [], ◌∷◌, ℕ, ◌+◌, ◌-◌, leb, ltb, eqb, drop}
-use Rattle.text.specs.declared.Num.{Num}
-use Rattle.text.specs.declared.Num.TheVariants.{Whole, Wrong}
+use Rattle.std.specs.Prelude.{None, Some, cond, List, [], ◌∷◌, ℕ, ◌+◌, ◌-◌, leb, ltb, eqb, drop}
+use Rattle.text.specs.Grammar.{Num}
 use Rattle.lines.specs.Lines.{starts_with, number_line}
 use Rattle.rows.specs.Rows.{row_word, is_cell}
 use Rattle.maps.specs.Maps.{width_word, height_word}
@@ -19,8 +18,8 @@ from_line n (b ∷ t) = cond (ltb 1 n) (from_line (n - newlines b) t) (b ∷ t)
 
 -- the number that a line says after its word, 0 where it says none
 abbrev pub number_in : Num → ℕ
-number_in (Whole v n) = v
-number_in Wrong = 0
+number_in (Some (v, n)) = v
+number_in None = 0
 
 unfoldable pub said_in : List ℕ → List ℕ → ℕ
 said_in word l = number_in (number_line word 1024 l)

@@ -1,15 +1,13 @@
 // What is wrong with a map text at the line that its reader refuses.
 #![tactic(auto)]
 
-ghost use Rattle.std.specs.Prelude.{◌≡◌, ◌≤◌, length, drop};
-ghost use Rattle.faults.specs.Faults.{newlines, from_line, said_in, line_fault, counted, cells_fault, row_fault, fault_of};
-
-use text::Num;
+ghost use Rattle.std.specs.Prelude.{◌≡◌};
+ghost use Rattle.faults.specs.Faults.{from_line, said_in, line_fault, counted, cells_fault, row_fault, fault_of};
 
 // What is wrong with a text at the line that is refused. TooLong and ByteOrderMark speak of the whole text, Missing of a text that ends before the line,
 // TooMany of text after the last row, Form of a line that is not what its place asks. A letter that is no cell comes with its column, from 0, and its byte;
 // a row that is too short or too long with the count of its cells and the width.
-#[derive(Clone, Copy)]
+#[derive(Clone, Copy, Debug, PartialEq, Eq)]
 pub enum Fault {
     TooLong,
     ByteOrderMark,
@@ -23,57 +21,41 @@ pub enum Fault {
     TooMany,
 }
 
-// How many newlines a byte is.
-fn newline(b: u8) -> usize
-    ensures { (result ≡ newlines b) × (result ≤ 1) }
+// The text s from a line on, the lines counted from 1: nothing where it has fewer.
+fn from_line(s: &[u8], line: usize) -> &[u8]
+    ensures { result.now ≡ from_line line s.now }
 {
-    if b == 10 {
-        return 1;
-    }
-    0
-}
-
-// Where a line of the text s begins, the lines counted from 1; the end of the text where it has fewer.
-fn line_start(s: &[u8], line: usize) -> usize
-    ensures { drop result s.now ≡ from_line line s.now }
-{
-    let mut at = 0;
     let mut left = line;
-    while 1 < left {
-        if s.len() <= at {
-            return at;
+    for (i, b) in s.iter().enumerate() {
+        if left <= 1 {
+            return &s[i..];
         }
-        left -= newline(s[at]);
-        at += 1;
+        left -= usize::from(*b == b'\n');
     }
-    at
+    &s[s.len()..]
 }
 
 // The number that a line of the text s says after its word, 0 where it says none.
 fn said(s: &[u8], line: usize, word: &[u8]) -> usize
     ensures { result ≡ said_in word.now (from_line line s.now) }
 {
-    let at = line_start(s, line);
-    let Num::Whole(v, _) = lines::number_line(s, at, word, 1024) else {
-        return 0;
-    };
-    v as usize
+    match lines::number_line(from_line(s, line), word, 1024) {
+        Some((v, _)) => v as usize,
+        None => 0,
+    }
 }
 
-// What is wrong with the line at a place: a carriage return in it, no newline at its end, or else the other fault.
-fn line_fault(s: &[u8], at: usize, other: Fault) -> Fault
-    ensures { result ≡ line_fault other (drop at s.now) }
+// What is wrong with the line that the text s begins with: a carriage return in it, no newline at its end, or else the other fault.
+fn line_fault(s: &[u8], other: Fault) -> Fault
+    ensures { result ≡ line_fault other s.now }
 {
-    let mut i = at;
-    while i < s.len() {
-        let b = s[i];
-        if b == 10 {
+    for b in s {
+        if *b == b'\n' {
             return other;
         }
-        if b == 13 {
+        if *b == b'\r' {
             return Fault::CarriageReturn;
         }
-        i += 1;
     }
     Fault::NoNewline
 }
@@ -83,39 +65,35 @@ fn count_fault(k: usize, w: usize) -> Fault
     ensures { result ≡ counted w k }
 {
     if k < w {
-        return Fault::Short(k, w);
+        Fault::Short(k, w)
+    } else {
+        Fault::Long(k, w)
     }
-    Fault::Long(k, w)
 }
 
-// What is wrong with the cells that begin at a place: the first letter that is none, or how many they are.
-fn cells_fault(s: &[u8], at: usize, w: usize) -> Fault
-    ensures { result ≡ cells_fault w 0 (drop at s.now) }
+// What is wrong with the cells that the text s begins with: the first letter that is none, or how many they are.
+fn cells_fault(s: &[u8], w: usize) -> Fault
+    ensures { result ≡ cells_fault w 0 s.now }
 {
-    let mut i = at;
-    let mut k = 0;
-    while i < s.len() {
-        let b = s[i];
-        if b == 10 {
+    for (k, b) in s.iter().enumerate() {
+        if *b == b'\n' {
             return count_fault(k, w);
         }
-        if !rows::is_cell(b) {
-            return Fault::Letter(k, b);
+        if !rows::is_cell(*b) {
+            return Fault::Letter(k, *b);
         }
-        i += 1;
-        k += 1;
     }
-    count_fault(k, w)
+    count_fault(s.len(), w)
 }
 
-// What is wrong with the row at a place.
-fn row_fault(s: &[u8], at: usize, w: usize) -> Fault
-    ensures { result ≡ row_fault w (drop at s.now) }
+// What is wrong with the row that the text s begins with.
+fn row_fault(s: &[u8], w: usize) -> Fault
+    ensures { result ≡ row_fault w s.now }
 {
-    if !lines::starts(s, at, b"row=") {
-        return Fault::Form;
+    match s.strip_prefix(b"row=") {
+        Some(cells) => cells_fault(cells, w),
+        None => Fault::Form,
     }
-    cells_fault(s, at + 4, w)
 }
 
 // What is wrong with the text s at the line that its reader refused it with: the first bad or missing one from 1, or 0 where
@@ -126,19 +104,19 @@ pub fn fault_of(s: &[u8], line: usize) -> Fault
     if line == 0 {
         return Fault::TooLong;
     }
-    if lines::starts(s, 0, b"\xEF\xBB\xBF") {
+    if s.starts_with(b"\xEF\xBB\xBF") {
         return Fault::ByteOrderMark;
     }
-    let at = line_start(s, line);
-    if s.len() <= at {
+    let rest = from_line(s, line);
+    if rest.is_empty() {
         return Fault::Missing;
     }
     if line < 6 {
-        return line_fault(s, at, Fault::Form);
+        return line_fault(rest, Fault::Form);
     }
     if said(s, 2, b"height=") <= line - 6 {
         return Fault::TooMany;
     }
     let w = said(s, 1, b"width=");
-    line_fault(s, at, row_fault(s, at, w))
+    line_fault(rest, row_fault(rest, w))
 }

@@ -22,10 +22,10 @@ use Rattle.costs.specs.Limits.{most_depth, most_pops, most_fringe, settings_ok}
 use Rattle.costs.specs.Scale.{in_bounds}
 use Rattle.goals.specs.declared.Goal.{Goal}
 use Rattle.goals.specs.declared.Goal.TheVariants.{Several}
-use Rattle.goals.specs.declared.Listed.{Listed}
-use Rattle.goals.specs.declared.Misplaced.TheVariants.{At, Nowhere}
+use Rattle.std.specs.Prelude.{Option, Some, None, Result, Ok, Err}
 use Rattle.goals.specs.declared.Plan.{Plan}
-use Rattle.goals.specs.Goals.{most_goals, pick_listed, count_of, bad_of, Placed}
+use Rattle.pairs.specs.Pairs.{Even, first_bad}
+use Rattle.goals.specs.Goals.{most_goals, count_of, Placed}
 use Rattle.goals.proofs.Walks.{legals}
 use Rattle.offers.specs.Search.{Reply, refused}
 use Rattle.search.specs.Loop.{Legal}
@@ -143,7 +143,7 @@ module _ (w h : ℕ) (s : Settings) (l : Lengths) (start : Point) (sides : Sides
   pub single_legal : (approximate : Bool) (goal : Point) → legal goal ≡ true → Legal (pair_of goal) (single_plan w h s approximate start goal)
   single_legal approximate goal g = plan_legal (pair_of goal) (kind_of approximate goal) (placed goal approximate g)
 
-  pub several_legal : (goals : List ℤ) (n : ℕ) → 1 ≤ n → 2 * n ≤ length goals → Nowhere ≡ bad_of goals n 0 → Legal goals (plan_of w h s (Several n) start)
+  pub several_legal : (goals : List ℤ) (n : ℕ) → 1 ≤ n → 2 * n ≤ length goals → None ≡ first_bad goals → Legal goals (plan_of w h s (Several n) start)
   several_legal goals n a b c = plan_legal goals (Several n) (a, legals goals n b c)
 
 -- ---- the single-goal search, test by test
@@ -188,22 +188,28 @@ module _ (w h : ℕ) (b e f links : List ℕ) (s : Settings) (number place paren
 
 -- ---- the multiple-goal search, test by test
 
-never_listed : {P : Type 0} (w : Refusal) (k : ℕ) → Listed.Refused w ≡ Listed.Goals k → P
+never_listed : {P : Type 0} (w : Refusal) (k : ℕ) → ◌≡◌ {A = Result ℕ Refusal} (Err w) (Ok k) → P
 never_listed w k e = let z : ◌≡◌ {A = ℕ} 0 1 = cc in absurd (omega arith)
 
-counted : (a b c : Bool) (w : Refusal) (k n : ℕ) → pick_listed a (Listed.Refused w) (pick_listed b (Listed.Refused w) (pick_listed c (Listed.Refused w) (Listed.Goals k))) ≡ Listed.Goals n → (a ≡ false) × ((b ≡ false) × (k ≡ n))
+counted : (a b c : Bool) (w : Refusal) (k n : ℕ) → ◌≡◌ {A = Result ℕ Refusal} (cond a (Err w) (cond b (Err w) (cond c (Err w) (Ok k)))) (Ok n) → (a ≡ false) × ((b ≡ false) × (k ≡ n))
 counted true b c w k n e = never_listed w n e
 counted false true c w k n e = never_listed w n e
 counted false false true w k n e = never_listed w n e
 counted false false false w k n e = let z : k ≡ n = cc in (refl, (refl, z))
 
 -- a list that is not refused has half as many goals as numbers, and at least one
-pub count_is : (m n : ℕ) → Listed.Goals n ≡ count_of m → (n ≡ m / 2) × ((1 ≤ n) × (2 * n ≤ m))
+pub count_is : (m n : ℕ) → Ok n ≡ count_of m → (n ≡ m / 2) × ((1 ≤ n) × (2 * n ≤ m))
 count_is m n e =
     let r = counted (eqb m 0) (eqb (m % 2) 1) (ltb most_goals (m / 2)) refusal.Goals (m / 2) n (sym e) in
     let a = eqb-false m 0 r.0 in
     let b = eqb-false (m % 2) 1 r.1.0 in
     (omega (arith, r.1.1), (omega (arith, r.1.1, a, b), omega (arith, r.1.1)))
+
+-- and both numbers of each
+pub count_even : (m n : ℕ) → Ok n ≡ count_of m → Even m
+count_even m n e =
+    let r = counted (eqb m 0) (eqb (m % 2) 1) (ltb most_goals (m / 2)) refusal.Goals (m / 2) n (sym e) in
+    omega (arith, eqb-false (m % 2) 1 r.1.0)
 
 module _ (g : Ground) (s : Settings) (l : Lengths) (start : Point) (goals : List ℤ) where
   pub several_setting : ready_of s l (g.w * g.h + 1) ≡ false → refused Setting 0 ≡ several_of g s l start goals
@@ -211,26 +217,26 @@ module _ (g : Ground) (s : Settings) (l : Lengths) (start : Point) (goals : List
   several_setting e = rw e
 
   module _ (a : ready_of s l (g.w * g.h + 1) ≡ true) where
-    pub several_count : (w : Refusal) → Listed.Refused w ≡ count_of (length goals) → refused refusal.Goals 0 ≡ several_of g s l start goals
+    pub several_count : (w : Refusal) → Err w ≡ count_of (length goals) → refused refusal.Goals 0 ≡ several_of g s l start goals
     unfolding several_of
     several_count w e = rw (a, ← e)
 
-    module _ (n : ℕ) (c : Listed.Goals n ≡ count_of (length goals)) where
+    module _ (n : ℕ) (c : Ok n ≡ count_of (length goals)) where
       pub several_start : legal start ≡ false → refused (BadPoint start) 0 ≡ several_of g s l start goals
       unfolding several_of
       several_start e = rw (a, ← c, e)
 
       module _ (b : legal start ≡ true) where
-        pub several_goals : (q : Point) → At q ≡ bad_of goals n 0 → refused (BadPoint q) 0 ≡ several_of g s l start goals
+        pub several_goals : (q : Point) → Some q ≡ first_bad goals → refused (BadPoint q) 0 ≡ several_of g s l start goals
         unfolding several_of
-        several_goals q e = let z : At q ≡ bad_of goals (length goals / 2) 0 = e ∙ ap (λ (x : ℕ). bad_of goals x 0) (count_is (length goals) n c).0 in rw (a, ← c, b, ← z)
+        several_goals q e = rw (a, ← c, b, ← e)
 
-        pub several_open : Nowhere ≡ bad_of goals n 0 → started_in g goals (several_plan g.w g.h s start goals) ≡ several_of g s l start goals
+        pub several_open : None ≡ first_bad goals → started_in g goals (several_plan g.w g.h s start goals) ≡ several_of g s l start goals
         unfolding several_of
-        several_open e = let z : Nowhere ≡ bad_of goals (length goals / 2) 0 = e ∙ ap (λ (x : ℕ). bad_of goals x 0) (count_is (length goals) n c).0 in rw (a, ← c, b, ← z)
+        several_open e = rw (a, ← c, b, ← e)
 
 -- past all its tests a multiple-goal search may be made, and what that answers is its answer
-module _ (w h : ℕ) (b e f : List ℕ) (s : Settings) (number place parent cost keys idx : List ℕ) (start : Point) (goals : List ℤ) (ready : ready_of s (lengths_of number place parent cost keys idx) (w * h + 1) ≡ true) (n : ℕ) (count : Listed.Goals n ≡ count_of (length goals)) (from : legal start ≡ true) (to : Nowhere ≡ bad_of goals n 0) (p : Plan) (same : p ≡ plan_of w h s (Several n) start) where
+module _ (w h : ℕ) (b e f : List ℕ) (s : Settings) (number place parent cost keys idx : List ℕ) (start : Point) (goals : List ℤ) (ready : ready_of s (lengths_of number place parent cost keys idx) (w * h + 1) ≡ true) (n : ℕ) (count : Ok n ≡ count_of (length goals)) (from : legal start ≡ true) (to : None ≡ first_bad goals) (p : Plan) (same : p ≡ plan_of w h s (Several n) start) where
   pub several_asked : Sides w h → Covered (w * h) b e f → Legal goals p × (Covered (p.w * p.h) b e f × Roomy (p.w * p.h + 1) p.settings.fringe number place parent cost keys idx)
   several_asked sides covered =
       let c = count_is (length goals) n count in

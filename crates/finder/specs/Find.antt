@@ -1,28 +1,24 @@
 -- What the searches answer and write: the refusals in their order, the search, its waypoints.
 -- Assumes nothing.
-use Rattle.std.specs.Prelude.{Bool, cond, List, [], ◌∷◌, ℕ, ◌+◌, ◌*◌, ◌/◌, ◌≤◌, ℤ, length, get_or, take}
+use Rattle.std.specs.Prelude.{Bool, cond, List, [], Result, Ok, Err, ◌∷◌, ℕ, ◌+◌, ◌*◌, ◌/◌, ◌≤◌, ℤ, length, get_or, take, Option, Some, None}
 use Rattle.points.specs.Plane.{legal}
 use Rattle.points.specs.declared.Point.{Point}
 use Rattle.points.specs.declared.Refusal.{Refusal}
 use Rattle.points.specs.declared.Refusal.TheVariants as refusal
 use Rattle.costs.specs.declared.Settings.{Settings}
 use Rattle.goals.specs.declared.Goal.TheVariants.{Several}
-use Rattle.goals.specs.declared.Listed.{Listed}
-use Rattle.goals.specs.declared.Misplaced.{Misplaced}
-use Rattle.goals.specs.declared.Misplaced.TheVariants.{At, Nowhere}
 use Rattle.goals.specs.declared.Plan.{Plan}
-use Rattle.goals.specs.Goals.{count_of, bad_of}
+use Rattle.pairs.specs.Pairs.{first_bad}
+use Rattle.goals.specs.Goals.{count_of}
 use Rattle.offers.specs.Search.{State, Reply, found, refused}
 use Rattle.expansion.specs.Expand.{Tables, tables}
 use Rattle.search.specs.Loop.{search_for}
-use Rattle.trails.specs.declared.Wrote.{Wrote}
-use Rattle.trails.specs.declared.Wrote.TheVariants.{Written, Room}
-use Rattle.trails.specs.Trail.{route_of, wrote_of, left_in}
+use Rattle.search.specs.declared.Hit.{Hit}
+use Rattle.trails.specs.Trail.{Climbs, Located, Tall, route_of, wrote_of, left_in}
 use Rattle.cells.specs.Cells.{cell_of}
 use Rattle.plans.specs.declared.Lengths.{Lengths}
 use Rattle.plans.specs.Plans.{ready_of, barred_of, plan_of, kind_of}
-use Rattle.finder.specs.declared.Outcome.{Outcome}
-use Rattle.finder.specs.declared.Outcome.TheVariants.{Found, Refused}
+use Rattle.finder.specs.declared.Found.{Found}
 use Rattle.finder.specs.declared.Answer.{Answer}
 
 -- ---- the answer of a search
@@ -31,15 +27,19 @@ use Rattle.finder.specs.declared.Answer.{Answer}
 abbrev pub route_in : State → ℕ → List ℕ
 route_in s i = route_of s.nodes.parent (get_or s.nodes.cost i 0) i []
 
+-- what was found, of its parts
+abbrev pub found_of : ℕ → ℕ → Found
+found_of n k = record { length = n; cost = k }
+
 -- how many waypoints were written, with the cost k, or ROOM
-abbrev pub told_of : ℕ → Wrote → Outcome
-told_of k (Written n) = Found n k
-told_of k Room = Refused refusal.Room
+abbrev pub told_of : ℕ → Result ℕ Refusal → Result Found Refusal
+told_of k (Ok n) = Ok (found_of n k)
+told_of k (Err w) = Err w
 
 -- pops and outcome, where the output has room for so many numbers
 unfoldable pub answer_of : ℕ → Reply → Answer
 answer_of room (found i k n s) = record { pops = n; outcome = told_of k (wrote_of room (route_in s i)) }
-answer_of room (refused w n) = record { pops = n; outcome = Refused w }
+answer_of room (refused w n) = record { pops = n; outcome = Err w }
 
 -- what the output holds then: a refusal leaves all of it
 unfoldable pub out_after : List ℤ → Plan → Reply → List ℤ
@@ -48,7 +48,7 @@ out_after out p (refused w n) = out
 
 -- a refusal before searching
 abbrev pub early : Refusal → Answer
-early w = record { pops = 0; outcome = Refused w }
+early w = record { pops = 0; outcome = Err w }
 
 -- ---- the searches
 
@@ -104,14 +104,14 @@ abbrev pub several_plan : ℕ → ℕ → Settings → Point → List ℤ → Pl
 several_plan w h s start goals = plan_of w h s (Several (length goals / 2)) start
 
 -- GOALS
-abbrev pub after_count : Listed → Reply → Reply
-after_count (Listed.Refused w) r = refused refusal.Goals 0
-after_count (Listed.Goals n) r = r
+abbrev pub after_count : Result ℕ Refusal → Reply → Reply
+after_count (Err w) r = refused refusal.Goals 0
+after_count (Ok n) r = r
 
 -- POINT of the goals, in order
-abbrev pub after_goals : Misplaced → Reply → Reply
-after_goals (At q) r = refused (refusal.BadPoint q) 0
-after_goals Nowhere r = r
+abbrev pub after_goals : Option Point → Reply → Reply
+after_goals (Some q) r = refused (refusal.BadPoint q) 0
+after_goals None r = r
 
 -- the multiple-goal search: SETTING, GOALS, POINT (start, then goals in order), then what the search meets; it asks no component
 unfoldable pub several_of : Ground → Settings → Lengths → Point → List ℤ → Reply
@@ -119,12 +119,25 @@ several_of g s l start goals =
     cond (ready_of s l (g.w * g.h + 1))
     (after_count (count_of (length goals))
     (cond (legal start)
-    (after_goals (bad_of goals (length goals / 2) 0)
+    (after_goals (first_bad goals)
     (started_in g goals (several_plan g.w g.h s start goals)))
     (refused (refusal.BadPoint start) 0)))
     (refused refusal.Setting 0)
 
 -- ---- what the code asks
+
+-- the nodes from the start to a popped goal
+abbrev pub hit_route : List ℕ → List ℕ → ℕ → Hit → List ℕ
+hit_route parent cost n h = route_of (take n parent) (get_or (take n cost) h.node 0) h.node []
+
+-- a popped goal from which the recorded parents lead back to the start
+pub record Traceable (p : Plan) (place parent cost : List ℕ) (n : ℕ) (h : Hit) : Type 0 where
+  pub place_in : n ≤ length place
+  pub parent_in : n ≤ length parent
+  pub cost_in : n ≤ length cost
+  pub located : Located p (take n place) n
+  pub climbs : Climbs (take n parent) (take n cost) n
+  pub tall : Tall (take n cost) n h.node
 
 -- tables with a place for each cell
 pub record Covered (n : ℕ) (b e f : List ℕ) : Type 0 where

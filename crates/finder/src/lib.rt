@@ -1,31 +1,32 @@
 // The searches over lent tables, whose state is legal and is not tested, with their refusals in order and their waypoints.
 #![tactic(auto)]
 
-ghost use Rattle.std.specs.Prelude.{◌≡◌, ◌+◌, ◌*◌, length};
+ghost use Rattle.std.specs.Prelude.{◌≡◌, ◌+◌, ◌*◌, length, take};
 ghost use Rattle.components.specs.Components.{Forest};
 ghost use Rattle.cells.specs.Cells.{Sides};
 ghost use Rattle.search.specs.Loop.{Legal};
-ghost use Rattle.finder.specs.Find.{Covered, Roomy, lent_ground, lengths_of, early, answer_of, out_after, started_of, single_plan, single_of, several_plan, several_of};
+ghost use Rattle.trails.specs.Trail.{wrote_of, left_in};
+ghost use Rattle.finder.specs.Find.{Covered, Roomy, lent_ground, lengths_of, early, answer_of, out_after, started_of, told_of, hit_route, Traceable, single_plan, single_of, several_plan, several_of};
 
 use costs::Settings;
-use goals::{Goal, Listed, Misplaced, Plan};
+use goals::{Goal, Plan};
+use offers::Work;
 use plans::Lengths;
 use points::{Point, Refusal};
-use search::Reply;
-use trails::Wrote;
+use search::{Hit, Reply};
 
-// The count of waypoints and the cost at the goal's pop, or a refusal.
-#[derive(Clone, Copy)]
-pub enum Outcome {
-    Found(usize, u64),
-    Refused(Refusal),
+// What was found: how many waypoints were written, and the cost at the goal's pop.
+#[derive(Clone, Copy, PartialEq, Eq)]
+pub struct Found {
+    pub length: usize,
+    pub cost: u64,
 }
 
-// What a search answers: its pops, 0 if it was refused before searching, and what came of it.
+// What a search answers: its pops, 0 if it was refused before searching, and what was found, or a refusal.
 #[derive(Clone, Copy)]
 pub struct Answer {
     pub pops: usize,
-    pub outcome: Outcome,
+    pub outcome: Result<Found, Refusal>,
 }
 
 // A refusal before searching.
@@ -34,8 +35,36 @@ pub fn refused(w: Refusal) -> Answer
 {
     Answer {
         pops: 0,
-        outcome: Outcome::Refused(w),
+        outcome: Err(w),
     }
+}
+
+// Writes the waypoints to a popped goal, or ROOM.
+fn traced(
+    place: &[u32],
+    parent: &[u32],
+    cost: &[u64],
+    out: &mut [i32],
+    p: Plan,
+    count: usize,
+    hit: Hit,
+) -> Result<Found, Refusal>
+    requires { Traceable p place.now parent.now cost.now count hit }
+    ensures { (result ≡ told_of hit.cost (wrote_of (length out.old) (hit_route parent.now cost.now count hit))) × (out.new ≡ left_in out.old p (take count place.now) (hit_route parent.now cost.now count hit)) }
+{
+    let length = trails::write_route(
+        &place[..count],
+        &parent[..count],
+        &cost[..count],
+        p,
+        count,
+        hit.node,
+        out,
+    )?;
+    Ok(Found {
+        length,
+        cost: hit.cost,
+    })
 }
 
 // Searches from the plan's start and writes the waypoints, or ROOM.
@@ -56,47 +85,45 @@ fn find(
     requires { Legal goals.now p × (Covered (p.w * p.h) blocked.now neighbours.now forced.now × Roomy (p.w * p.h + 1) p.settings.fringe number.old place.old parent.old cost.old keys.old idx.old) }
     ensures { (result ≡ answer_of (length out.old) (started_of blocked.now neighbours.now forced.now goals.now p)) × (out.new ≡ out_after out.old p (started_of blocked.now neighbours.now forced.now goals.now p)) }
 {
-    let w = p.w;
-    let h = p.h;
-    let n = w * h;
-    let places = n + 1;
-    let start = cells::cell_of(w, h, p.start);
-    let r = search::search(
-        &blocked[..n],
-        &neighbours[..n],
-        &forced[..n],
-        goals,
-        &mut number[..places],
+    let n = p.w * p.h;
+    let start = cells::cell_of(p.w, p.h, p.start);
+    let mut work = Work {
+        number: &mut number[..n + 1],
         place,
         parent,
         cost,
         keys,
         idx,
+        count: 0,
+        heap: 0,
+    };
+    let Reply { pops, outcome } = search::search(
+        &blocked[..n],
+        &neighbours[..n],
+        &forced[..n],
+        goals,
+        &mut work,
         p,
         start,
     );
-    match r {
-        Reply::Refused(w, pops) => Answer {
-            pops,
-            outcome: Outcome::Refused(w),
-        },
-        Reply::Found(i, k, pops, m) => {
-            let count = m.count;
-            let a = &place[..count];
-            let b = &parent[..count];
-            let c = &cost[..count];
-            let t = trails::write_route(a, b, c, p, count, i, out);
-            match t {
-                Wrote::Written(length) => Answer {
-                    pops,
-                    outcome: Outcome::Found(length, k),
-                },
-                Wrote::Room => Answer {
-                    pops,
-                    outcome: Outcome::Refused(Refusal::Room),
-                },
+    match outcome {
+        Ok(hit) => {
+            let Work {
+                place,
+                parent,
+                cost,
+                count,
+                ..
+            } = work;
+            Answer {
+                pops,
+                outcome: traced(place, parent, cost, out, p, count, hit),
             }
         }
+        Err(w) => Answer {
+            pops,
+            outcome: Err(w),
+        },
     }
 }
 
@@ -184,15 +211,13 @@ pub fn multiple_goals(
     if !plans::ready(s, l, w * h + 1) {
         return refused(Refusal::Setting);
     }
-    let c = goals::count_goals(goals);
-    let Listed::Goals(n) = c else {
+    let Ok(n) = goals::count_goals(goals) else {
         return refused(Refusal::Goals);
     };
     if !start.legal() {
         return refused(Refusal::BadPoint(start));
     }
-    let q = goals::first_misplaced(goals, n as usize);
-    if let Misplaced::At(bad) = q {
+    if let Some(bad) = pairs::bad_point(goals) {
         return refused(Refusal::BadPoint(bad));
     }
     let p = plans::plan(w, h, s, Goal::Several(n), start);

@@ -10,39 +10,35 @@ use lib.ListN.{length, drop}
 use Rattle.cells.specs.Cells.{most_side, sized_of}
 use Rattle.cells.specs.Cells.{Sides}
 use Rattle.grid.specs.Grids.{zeros, new_grid, new_outcome}
-use Rattle.rows.specs.Rows.{rows_of}
-use Rattle.rows.specs.declared.Rows.{Rows}
-use Rattle.rows.specs.declared.Rows.TheVariants.{Good, Bad as BadRow}
-use Rattle.maps.specs.Maps.{side_ok, most_text, head_of, Fair, with_rows, with_head, map_of, cells_into}
+use Rattle.rows.specs.Rows.{bad_line, Rows, rows_of}
+use Rattle.rows.specs.declared.BadLine.{BadLine}
+use Rattle.maps.specs.Maps.{Head, Reading, side_ok, most_text, head_of, Fair, with_rows, with_head, map_of, cells_into}
 use Rattle.maps.specs.declared.Header.{Header}
-use Rattle.maps.specs.declared.Head.{Head}
-use Rattle.maps.specs.declared.Head.TheVariants.{Of, Bad as BadHead}
-use Rattle.maps.specs.declared.Reading.{Reading}
-use Rattle.maps.specs.declared.Reading.TheVariants.{Map, Bad}
+use Rattle.std.specs.Prelude.{Ok, Err}
 use Rattle.maps.proofs.Laws.{HBounded, head_fair, side_most}
 use Rattle.floors.specs.Floors.{read_as, read_of}
 
 -- ---- a map that was read
-same : (a b : Header) → Map a ≡ Map b → a ≡ b
+same : (a b : Header) → ◌≡◌ {A = Reading} (Ok a) (Ok b) → a ≡ b
 same a b e = cc
 
-never : (n : ℕ) (m : Header) → Bad n ≡ Map m → ⊥
+never : (n : BadLine) (m : Header) → ◌≡◌ {A = Reading} (Err n) (Ok m) → ⊥
 never n m e = let z : ◌≡◌ {A = ℕ} 0 1 = cc in omega arith
 
-pub map_fair : (t : List ℕ) (m : Header) → map_of t ≡ Map m → Fair m
+pub map_fair : (t : List ℕ) (m : Header) → map_of t ≡ Ok m → Fair m
 unfolding map_of
 map_fair t m e = long (ltb most_text (length t)) e
   where
-    rows : (h : Header) → Fair h → (r : Rows) → with_rows h r ≡ Map m → Fair m
-    rows h f Good q = subst Fair (same h m q) f
-    rows h f (BadRow n) q = absurd (never n m q)
+    rows : (h : Header) → Fair h → (r : Rows) → with_rows h r ≡ Ok m → Fair m
+    rows h f (Ok u) q = subst Fair (same h m q) f
+    rows h f (Err n) q = absurd (never n m q)
 
-    head : (r : Head) → HBounded (length t) r → with_head t r ≡ Map m → Fair m
-    head (Of h k) b q = rows h b.0 (rows_of h.height h.width 6 (drop k t)) q
-    head (BadHead n) b q = absurd (never n m q)
+    head : (r : Head) → HBounded (length t) r → with_head t r ≡ Ok m → Fair m
+    head (Ok (h, k)) b q = rows h b.0 (rows_of h.height h.width 6 (drop k t)) q
+    head (Err n) b q = absurd (never n m q)
 
-    long : (b : Bool) → cond b (Bad 0) (with_head t (head_of t)) ≡ Map m → Fair m
-    long true q = absurd (never 0 m q)
+    long : (b : Bool) → cond b (Err (bad_line 0)) (with_head t (head_of t)) ≡ Ok m → Fair m
+    long true q = absurd (never (bad_line 0) m q)
     long false q = head (head_of t) (head_fair t) q
 
 side_some : (n : ℕ) → T (side_ok n) → 0 < n

@@ -5,26 +5,20 @@ ghost use Rattle.std.specs.Prelude.{◌≡◌, length};
 ghost use Rattle.cells.specs.Cells.{Sides};
 ghost use Rattle.floors.specs.Floors.{floor_grid, refused_map, read_of, shown_of, put_of, put_into};
 
-use grid::{Grid, Outcome};
-use maps::{Header, Reading};
+use cells::Size;
+use grid::Grid;
+use maps::Header;
 use points::{Point, Refusal};
 
 // A map that was read: the grid, whose components are yet to be rebuilt, and what else the text says.
 // A refused text comes with a new free grid of 1 by 1.
 #[derive(Clone, Copy)]
 pub struct MapRead {
-    pub outcome: Outcome,
+    pub outcome: Result<(), Refusal>,
     pub grid: Grid,
     pub diagonal: bool,
     pub start: Point,
     pub goal: Point,
-}
-
-// How many bytes were written, or a refusal.
-#[derive(Clone, Copy)]
-pub enum Put {
-    Bytes(usize),
-    Refused(Refusal),
 }
 
 // The grid of a floor's cells: their masks, each cell its own component, marked dirty.
@@ -34,7 +28,7 @@ fn floor(w: usize, h: usize, blocked: [u8; 4096]) -> Grid
 {
     let n = w * h;
     let mut neighbours = [0u8; 4096];
-    fills::fill_masks(w, h, &blocked, &mut neighbours, n);
+    fills::fill_masks(Size { w, h }, &blocked, &mut neighbours);
     let mut forced = [0u8; 4096];
     fills::fill_forced(&neighbours, &mut forced, n);
     let mut parent = [0u16; 4096];
@@ -44,11 +38,11 @@ fn floor(w: usize, h: usize, blocked: [u8; 4096]) -> Grid
         width: w,
         height: h,
         dirty: true,
-        blocked: blocked,
-        neighbours: neighbours,
-        forced: forced,
-        parent: parent,
-        rank: rank,
+        blocked,
+        neighbours,
+        forced,
+        parent,
+        rank,
     }
 }
 
@@ -56,12 +50,10 @@ fn floor(w: usize, h: usize, blocked: [u8; 4096]) -> Grid
 fn refused(line: usize) -> MapRead
     ensures { result ≡ refused_map line }
 {
-    let none = grid::new(1, 1);
-    let g = none.grid;
     let origin = Point { x: 0, y: 0 };
     MapRead {
-        outcome: Outcome::Refused(Refusal::Map(line)),
-        grid: g,
+        outcome: Err(Refusal::Map(line)),
+        grid: grid::new(1, 1).grid,
         diagonal: true,
         start: origin,
         goal: origin,
@@ -73,51 +65,47 @@ pub fn read_map(text: &[u8]) -> MapRead
     ensures { result ≡ read_of text.now }
 {
     let mut blocked = [0u8; 4096];
-    let r = maps::read(text, &mut blocked);
-    match r {
-        Reading::Bad(n) => refused(n),
-        Reading::Map(m) => {
-            let w = m.width;
-            let h = m.height;
-            let start = m.start;
-            let goal = m.goal;
-            MapRead {
-                outcome: Outcome::Done,
-                grid: floor(w, h, blocked),
-                diagonal: m.diagonal,
-                start: start,
-                goal: goal,
-            }
-        }
+    match maps::read(text, &mut blocked) {
+        Err(bad) => refused(bad.line),
+        Ok(m) => MapRead {
+            outcome: Ok(()),
+            grid: floor(m.width, m.height, blocked),
+            diagonal: m.diagonal,
+            start: m.start,
+            goal: m.goal,
+        },
     }
 }
 
-// Writes a grid's cells with an order to route as a map text; the rest of the room is kept.
+// Writes a grid's cells with an order to route as a map text, and answers how many bytes it is; the rest of the room is kept.
 // Refuses STATE, POINT (start, then goal), and ROOM where the longest map text would not fit; then nothing is written.
-pub fn write_map(buf: &mut [u8], g: Grid, diagonal: bool, start: Point, goal: Point) -> Put
+pub fn write_map(
+    buf: &mut [u8],
+    g: Grid,
+    diagonal: bool,
+    start: Point,
+    goal: Point,
+) -> Result<usize, Refusal>
     ensures { (result ≡ put_of (length buf.old) g diagonal start goal) × (buf.new ≡ put_into result (shown_of g diagonal start goal) buf.old) }
 {
     if !grid::legal(g) {
-        return Put::Refused(Refusal::State);
+        return Err(Refusal::State);
     }
     if !start.legal() {
-        return Put::Refused(Refusal::BadPoint(start));
+        return Err(Refusal::BadPoint(start));
     }
     if !goal.legal() {
-        return Put::Refused(Refusal::BadPoint(goal));
+        return Err(Refusal::BadPoint(goal));
     }
     if buf.len() < maps::TEXT {
-        return Put::Refused(Refusal::Room);
+        return Err(Refusal::Room);
     }
-    let w = g.width;
-    let h = g.height;
     let m = Header {
-        width: w,
-        height: h,
-        diagonal: diagonal,
-        start: start,
-        goal: goal,
+        width: g.width,
+        height: g.height,
+        diagonal,
+        start,
+        goal,
     };
-    let blocked = g.blocked;
-    Put::Bytes(map_printing::put_map(buf, m, &blocked))
+    Ok(map_printing::put_map(buf, m, &g.blocked))
 }

@@ -1,17 +1,18 @@
 -- Points of lists and of cells: what the machine's signed numbers are, and when two are the same. Assumes nothing.
 use mathlib.Core.Path.{◌≡◌, refl, sym, ap, ◌∙◌}
-use mathlib.Core.Bool.{Bool, true, false}
+use mathlib.Core.Bool.{Bool, true, false, ◌&&◌, true≢false}
 use Prim.Native.Nat.{ℕ, ◌/◌, ◌%◌, ◌<◌}
 use native.Mathlib.Nat.{mod-lt}
 use native.Mathlib.Omega.{arith}
-use borrow.Author.Tests.{eq-eqb, ne_eqb, eqb-true, eqb-false, le-leb}
-use lib.Dec.{T, eqb}
+use borrow.Author.Tests.{eq-eqb, ne_eqb, le-leb}
+use lib.Dec.{T}
 use lib.IntN.{ℤ, pos, negsuc}
-use mir.Syntax.{w32}
-use mir.Val.{SFits, of_z, to_z}
-use mir.Facts.{to_z-of_z}
+use Rattle.std.proofs.Common.{int_eq}
+use Rattle.std.specs.Bool.{Decides}
+use Rattle.std.proofs.lemmas.Bool.Decides.{Decides-int_eq}
 use Rattle.points.specs.Plane.{in_range, legal}
-use Rattle.goals.specs.Goals.{most_side, Numbered, point_of, same_z}
+use Rattle.goals.specs.Goals.{most_side, Numbered, point_of, both, same_z, same_point}
+use Rattle.points.specs.declared.Point.{Point}
 
 same_self : (a : ℤ) → same_z a a ≡ true
 same_self (pos a) = eq-eqb a a refl
@@ -26,23 +27,23 @@ same_no (pos a) (negsuc b) f = refl
 same_no (negsuc a) (pos b) f = refl
 same_no (negsuc a) (negsuc b) f = ne_eqb a b (λ e. f (ap negsuc e))
 
--- two numbers are the same exactly if their bits are
-module _ (a b : ℤ) (p : SFits w32 a) (q : SFits w32 b) where
-  back : of_z w32 a ≡ of_z w32 b → a ≡ b
-  back e = sym (to_z-of_z p) ∙ ap (to_z w32) e ∙ to_z-of_z q
+-- the test of two points by `==`
+int_same : (a b : ℤ) → int_eq a b ≡ same_z a b
+int_same a b = go (int_eq a b) (Decides-int_eq a b)
+  where
+    go : (t : Bool) → Decides t (a ≡ b) → t ≡ same_z a b
+    go true f = sym (same_yes a b (f.0 refl))
+    go false f = sym (same_no a b (λ e. true≢false (sym (f.1 e))))
 
-  pub bits_same : of_z w32 a ≡ of_z w32 b → same_z a b ≡ true
-  bits_same e = same_yes a b (back e)
+pub point_eq : (a b : Point) → int_eq a.x b.x && int_eq a.y b.y ≡ same_point a b
+point_eq a b = both_and (int_eq a.x b.x) (same_z a.x b.x) (int_eq a.y b.y) (same_z a.y b.y) (int_same a.x b.x) (int_same a.y b.y)
+  where
+    go : (s t : Bool) → s && t ≡ both s t
+    go true t = refl
+    go false t = refl
 
-  pub bits_other : (of_z w32 a ≡ of_z w32 b → ⊥) → same_z a b ≡ false
-  bits_other f = same_no a b (λ e. f (ap (of_z w32) e))
-
-  pub bits_test : eqb (of_z w32 a) (of_z w32 b) ≡ same_z a b
-  bits_test = go (eqb (of_z w32 a) (of_z w32 b)) refl
-    where
-      go : (t : Bool) → eqb (of_z w32 a) (of_z w32 b) ≡ t → eqb (of_z w32 a) (of_z w32 b) ≡ same_z a b
-      go true e = e ∙ sym (bits_same (eqb-true (of_z w32 a) (of_z w32 b) e))
-      go false e = e ∙ sym (bits_other (eqb-false (of_z w32 a) (of_z w32 b) e))
+    both_and : (s s' t t' : Bool) → s ≡ s' → t ≡ t' → s && t ≡ both s' t'
+    both_and s s' t t' e f = go s t ∙ (λ i. both (e i) (f i))
 
 -- a cell's point is in range
 in_side : (n : ℕ) → n < most_side → in_range (pos n) ≡ true

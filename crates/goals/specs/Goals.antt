@@ -1,18 +1,16 @@
 -- The goals of a search: their kinds, the goal test, and the estimate. Assumes nothing: these are definitions.
-use Rattle.std.specs.Prelude.{Bool, true, false, List, ℕ, zero, suc, ◌+◌, ◌*◌, ◌/◌, ◌%◌, ◌<◌, ◌≤◌, min, T, eqb, leb, ltb, ℤ, pos, negsuc, length, get_or}
+use Rattle.std.specs.Prelude.{cond, Option, Some, None, Result, Ok, Err, Bool, true, false, List, ℕ, zero, suc, ◌+◌, ◌*◌, ◌/◌, ◌%◌, ◌<◌, ◌≤◌, min, T, eqb, leb, ltb, ℤ, pos, negsuc, length, get_or}
 use Rattle.points.specs.Plane as plane
 use Rattle.points.specs.Plane.{legal}
 use Rattle.points.specs.declared.Point.{Point}
+use Rattle.points.specs.declared.Refusal.{Refusal}
 use Rattle.points.specs.declared.Refusal.TheVariants as refusal
+use Rattle.pairs.specs.Pairs as pairs
 use Rattle.costs.specs.Cost.{dist_of}
 use Rattle.costs.specs.Scale.{in_bounds, scale_of}
 use Rattle.goals.specs.declared.Goal.{Goal}
 use Rattle.goals.specs.declared.Goal.TheVariants.{Exact, Near, Several}
 use Rattle.goals.specs.declared.Plan.{Plan}
-use Rattle.goals.specs.declared.Listed.{Listed}
-use Rattle.goals.specs.declared.Listed.TheVariants.{Goals, Refused}
-use Rattle.goals.specs.declared.Misplaced.{Misplaced}
-use Rattle.goals.specs.declared.Misplaced.TheVariants.{At, Nowhere}
 
 -- the longest side of a grid, and the most goals of a search
 abbrev pub most_side : ℕ
@@ -51,27 +49,14 @@ same_point a b = both (same_z a.x b.x) (same_z a.y b.y)
 
 -- point number i of a list of pairs
 unfoldable pub point_at : List ℤ → ℕ → Point
-point_at gs i = record { x = get_or gs (2 * i) (pos 0); y = get_or gs (2 * i + 1) (pos 0) }
-
-abbrev pub pick_listed : Bool → Listed → Listed → Listed
-pick_listed true a b = a
-pick_listed false a b = b
+point_at gs i = pairs.point_at gs (2 * i)
 
 -- GOALS: no goal, an odd count of numbers, or more than 64; n is how many numbers the list has
-abbrev pub count_of : ℕ → Listed
+abbrev pub count_of : ℕ → Result ℕ Refusal
 count_of n =
-    pick_listed (eqb n 0) (Refused refusal.Goals)
-    (pick_listed (eqb (n % 2) 1) (Refused refusal.Goals)
-    (pick_listed (ltb most_goals (n / 2)) (Refused refusal.Goals) (Goals (n / 2))))
-
-abbrev pub pick_misplaced : Bool → Misplaced → Misplaced → Misplaced
-pick_misplaced true a b = a
-pick_misplaced false a b = b
-
--- the first of n goals from number i on that is out of range
-unfoldable pub bad_of : List ℤ → ℕ → ℕ → Misplaced
-bad_of gs zero i = Nowhere
-bad_of gs (suc n) i = pick_misplaced (legal (point_at gs i)) (bad_of gs n (i + 1)) (At (point_at gs i))
+    cond (eqb n 0) (Err refusal.Goals)
+    (cond (eqb (n % 2) 1) (Err refusal.Goals)
+    (cond (ltb most_goals (n / 2)) (Err refusal.Goals) (Ok (n / 2))))
 
 -- the least distance from a point to one of the first n goals
 unfoldable pub least_to : List ℤ → Bool → Point → ℕ → ℕ

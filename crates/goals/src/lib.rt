@@ -4,7 +4,7 @@
 ghost use Rattle.std.specs.Prelude.{◌≡◌, ℕ, ◌+◌, ◌*◌, ◌^◌, ◌<◌, ◌≤◌, min, T, length};
 ghost use Rattle.points.specs.Plane.{legal};
 ghost use Rattle.costs.specs.Cost.{farthest};
-ghost use Rattle.goals.specs.Goals.{Numbered, Aimed, Legals, most_goals, point_of, point_at, same_point, least_to, among_to, goal_at, left_of, guess_of, count_of, bad_of};
+ghost use Rattle.goals.specs.Goals.{Numbered, Aimed, Legals, most_goals, point_of, least_to, among_to, goal_at, left_of, guess_of, count_of};
 
 use costs::Settings;
 use points::{Point, Refusal};
@@ -31,20 +31,6 @@ pub struct Plan {
     pub settings: Settings,
 }
 
-// How many goals a list holds, or GOALS.
-#[derive(Clone, Copy)]
-pub enum Listed {
-    Goals(u32),
-    Refused(Refusal),
-}
-
-// The first point of a list that is out of range, if any.
-#[derive(Clone, Copy)]
-pub enum Misplaced {
-    At(Point),
-    Nowhere,
-}
-
 // The point of a cell number.
 pub fn point_of(w: usize, cell: usize) -> Point
     requires { Numbered w cell }
@@ -56,61 +42,15 @@ pub fn point_of(w: usize, cell: usize) -> Point
     }
 }
 
-// Point number i of a list of pairs.
-fn point_at(goals: &[i32], i: usize) -> Point
-    requires { 2 * i + 1 < length goals.now }
-    ensures { result ≡ point_at goals.now i }
-{
-    let at = 2 * i;
-    let next = at + 1;
-    Point {
-        x: goals[at],
-        y: goals[next],
-    }
-}
-
-// Whether two points are the same.
-pub fn same_point(a: Point, b: Point) -> bool
-    ensures { result ≡ same_point a b }
-{
-    if a.x == b.x {
-        return a.y == b.y;
-    }
-    false
-}
-
 // How many goals a list of pairs holds. Refuses GOALS: none, more than 64, or an odd count of numbers.
-pub fn count_goals(goals: &[i32]) -> Listed
+pub fn count_goals(goals: &[i32]) -> Result<u32, Refusal>
     ensures { result ≡ count_of (length goals.now) }
 {
     let n = goals.len();
-    if n == 0 {
-        return Listed::Refused(Refusal::Goals);
+    if n == 0 || n % 2 == 1 || MOST_GOALS < n / 2 {
+        return Err(Refusal::Goals);
     }
-    if n % 2 == 1 {
-        return Listed::Refused(Refusal::Goals);
-    }
-    if MOST_GOALS < n / 2 {
-        return Listed::Refused(Refusal::Goals);
-    }
-    let count = (n / 2) as u32;
-    Listed::Goals(count)
-}
-
-// The first of the first n goals that is out of range.
-pub fn first_misplaced(goals: &[i32], n: usize) -> Misplaced
-    requires { 2 * n ≤ length goals.now }
-    ensures { result ≡ bad_of goals.now n 0 }
-{
-    let mut i = 0;
-    while i < n {
-        let p = point_at(goals, i);
-        if !p.legal() {
-            return Misplaced::At(p);
-        }
-        i += 1;
-    }
-    Misplaced::Nowhere
+    Ok((n / 2) as u32)
 }
 
 // The least distance from a point to one of the first n goals.
@@ -118,23 +58,11 @@ pub fn least(goals: &[i32], diagonal: bool, n: usize, at: Point) -> u32
     requires { (1 ≤ n) × (Legals goals.now n × T (legal at)) }
     ensures { (result ≡ least_to goals.now diagonal at n) × (result ≤ farthest) }
 {
-    let mut best = costs::distance_between(diagonal, at, point_at(goals, 0));
-    let mut i = 0;
-    while i < n {
-        let d = costs::distance_between(diagonal, at, point_at(goals, i));
-        best = lesser(best, d);
-        i += 1;
+    let mut best = costs::distance_between(diagonal, at, pairs::point_at(goals, 0));
+    for i in 1..n {
+        best = best.min(costs::distance_between(diagonal, at, pairs::point_at(goals, 2 * i)));
     }
     best
-}
-
-fn lesser(a: u32, b: u32) -> u32
-    ensures { result ≡ min a b }
-{
-    if a < b {
-        return a;
-    }
-    b
 }
 
 // Whether a point is one of the first n goals.
@@ -142,38 +70,35 @@ fn among(goals: &[i32], n: usize, at: Point) -> bool
     requires { 2 * n ≤ length goals.now }
     ensures { result ≡ among_to goals.now at n 0 }
 {
-    let mut i = 0;
-    while i < n {
-        if same_point(at, point_at(goals, i)) {
+    for i in 0..n {
+        if at == pairs::point_at(goals, 2 * i) {
             return true;
         }
-        i += 1;
     }
     false
 }
 
 // Whether a point is a goal.
+#[tactic(auto, using(crate::proofs::Points::point_eq), unfolding(crate::specs::Goals::goal_at))]
 pub fn is_goal(goals: &[i32], p: Plan, at: Point) -> bool
     requires { Aimed goals.now p × T (legal at) }
     ensures { result ≡ goal_at goals.now p at }
 {
-    let goal = p.goal;
-    match goal {
-        Goal::Exact(q) => same_point(at, q),
+    match p.goal {
+        Goal::Exact(q) => at == q,
         Goal::Near(q) => costs::distance_between(p.settings.diagonal, at, q) <= 99,
         Goal::Several(n) => among(goals, n as usize, at),
     }
 }
 
 // The unscaled distance from a point to the goal.
+#[tactic(auto, unfolding(crate::specs::Goals::left_of))]
 fn left(goals: &[i32], p: Plan, at: Point) -> u32
     requires { Aimed goals.now p × T (legal at) }
     ensures { (result ≡ left_of goals.now p at) × (result ≤ farthest) }
 {
-    let goal = p.goal;
-    match goal {
-        Goal::Exact(q) => costs::distance_between(p.settings.diagonal, at, q),
-        Goal::Near(q) => costs::distance_between(p.settings.diagonal, at, q),
+    match p.goal {
+        Goal::Exact(q) | Goal::Near(q) => costs::distance_between(p.settings.diagonal, at, q),
         Goal::Several(n) => least(goals, p.settings.diagonal, n as usize, at),
     }
 }

@@ -1,14 +1,14 @@
 -- A grid by value, the tests that come before each call, and what the calls that change a grid answer. Assumes nothing.
-use Rattle.std.specs.Prelude.{Bool, false, cond, ◌&&◌, List, ℕ, ◌*◌, ltb, replicate}
+use Rattle.std.specs.Prelude.{Bool, false, cond, ◌&&◌, List, ℕ, ◌*◌, ◌≤◌, ltb, replicate, Result, Ok, Err}
 use Rattle.points.specs.Plane.{legal}
 use Rattle.points.specs.declared.Point.{Point}
+use Rattle.points.specs.declared.Refusal.{Refusal}
 use Rattle.points.specs.declared.Refusal.TheVariants.{Size, State, BadPoint}
+use Rattle.components.specs.Components.{Forest}
 use Rattle.states.specs.States.{state_ok}
-use Rattle.cells.specs.Cells.{sized_of, place_of, cell_of}
+use Rattle.cells.specs.Cells.{most_side, sized_of, place_of, cell_of, Sides}
 use Rattle.tables.specs.Tables.{Tables, new_of, edit_of, rebuild_of, update_of}
 use Rattle.grid.specs.declared.Grid.{Grid}
-use Rattle.grid.specs.declared.Outcome.{Outcome}
-use Rattle.grid.specs.declared.Outcome.TheVariants.{Done, Refused}
 use Rattle.grid.specs.declared.Change.{Change}
 
 -- a grid's tables, and the grid of some tables
@@ -22,29 +22,35 @@ grid_of w h t = record { width = w; height = h; dirty = t.dirty; blocked = t.blo
 unfoldable pub legal_of : Grid → Bool
 legal_of g = sized_of g.width g.height && state_ok (g.width * g.height) g.parent g.rank
 
+-- what a legal grid value has: sides and cells in range, and a legal state
+pub record Fits (g : Grid) : Type 0 where
+  pub sides : Sides g.width g.height
+  pub cells : g.width * g.height ≤ most_side * most_side
+  pub forest : Forest 200 (g.width * g.height) g.parent g.rank
+
 -- the number of the cell at a point, or width * height where the point is outside
 abbrev pub cell_in : Grid → Point → ℕ
 cell_in g p = cell_of g.width g.height p
 
 -- STATE
-unfoldable pub stated_of : Grid → Outcome
-stated_of g = cond (legal_of g) Done (Refused State)
+unfoldable pub stated_of : Grid → Result Unit Refusal
+stated_of g = cond (legal_of g) (Ok tt) (Err State)
 
--- STATE, then POINT for a point that is no cell of the grid
-unfoldable pub located_of : Grid → Point → Outcome
-located_of g p = cond (legal_of g) (cond (ltb (cell_in g p) (g.width * g.height)) Done (Refused (BadPoint p))) (Refused State)
+-- the number of the cell at a point; STATE, then POINT for a point that is no cell of the grid
+unfoldable pub located_of : Grid → Point → Result ℕ Refusal
+located_of g p = cond (legal_of g) (cond (ltb (cell_in g p) (g.width * g.height)) (Ok (cell_in g p)) (Err (BadPoint p))) (Err State)
 
--- STATE, then POINT for coordinates out of range, the start's first
-unfoldable pub asked_of : Grid → Point → Point → Outcome
+-- the numbers of the cells at the start and the goal; STATE, then POINT for coordinates out of range, the start's first
+unfoldable pub asked_of : Grid → Point → Point → Result (ℕ × ℕ) Refusal
 asked_of g start goal =
     cond (legal_of g)
-    (cond (legal start) (cond (legal goal) Done (Refused (BadPoint goal))) (Refused (BadPoint start)))
-    (Refused State)
+    (cond (legal start) (cond (legal goal) (Ok (cell_in g start, cell_in g goal)) (Err (BadPoint goal))) (Err (BadPoint start)))
+    (Err State)
 
--- the next grid, or a refusal with the grid as it came
-abbrev pub changed : Outcome → Grid → Grid → Change
-changed Done g next = record { outcome = Done; grid = next }
-changed (Refused r) g next = record { outcome = Refused r; grid = g }
+-- the next grid where the tests pass, or their refusal with the grid as it came
+abbrev pub changed : {A : Type 0} → Result A Refusal → Grid → Grid → Change
+changed (Ok a) g next = record { outcome = Ok tt; grid = next }
+changed (Err r) g next = record { outcome = Err r; grid = g }
 
 -- `set`: STATE, POINT, then the edit
 abbrev pub edit_grid : Grid → Bool → Point → Bool → Grid
@@ -81,4 +87,4 @@ new_grid w h = grid_of w h (new_of w h empty)
 
 -- `new`: SIZE comes with a new free grid of 1 by 1
 unfoldable pub new_outcome : ℕ → ℕ → Change
-new_outcome w h = cond (sized_of w h) (record { outcome = Done; grid = new_grid w h }) (record { outcome = Refused Size; grid = new_grid 1 1 })
+new_outcome w h = cond (sized_of w h) (record { outcome = Ok tt; grid = new_grid w h }) (record { outcome = Err Size; grid = new_grid 1 1 })

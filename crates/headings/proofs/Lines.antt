@@ -1,36 +1,39 @@
 -- What straight and bent mean, proved: by the differences of the two points, each a number of steps of its own sign. Assumes nothing.
 use mathlib.Core.Path.{◌≡◌, refl, sym, ap, ◌∙◌, subst}
 use mathlib.Core.Logic.{◌⊎◌, inl, inr}
-use mathlib.Core.Bool.{Bool, true, false, ◌||◌, true≢false}
+use mathlib.Core.Bool.{Bool, true, false, cond, ◌||◌, true≢false}
 use Prim.Native.Nat.{ℕ, zero, suc, ◌+◌, ◌%◌, ◌<◌, ◌≤◌, max}
 use native.Mathlib.Nat.{mod-lt}
 use native.Mathlib.Omega.{arith}
 use borrow.Author.Tests.{eq-eqb, ne_eqb, eqb-true}
 use lib.Dec.{T, eqb, lit<}
 use lib.IntN.{ℤ, pos, negsuc, nat_abs, ◌+ℤ◌, ◌-ℤ◌}
+use Rattle.std.specs.Prelude.{Result, Ok, Err}
+use Rattle.std.specs.Ordering.{match_ordering}
 use Rattle.directions.specs.Offsets.{off_x, off_y}
 use Rattle.directions.proofs.Eight.{by_eight}
 use Rattle.points.specs.Plane.{legal}
 use Rattle.points.specs.Compass.{dir, dx_of, dy_of, moved, sign_of}
 use Rattle.points.specs.declared.Point.{Point}
-use Rattle.points.specs.declared.Sign.{Sign}
-use Rattle.points.specs.declared.Sign.TheVariants.{Minus, Zero, Plus}
+use Rattle.std.specs.declared.cmp.Ordering.{Ordering}
+use Rattle.std.specs.declared.cmp.Ordering.TheVariants.{Less, Equal, Greater}
+use Rattle.points.specs.declared.Refusal.{Refusal}
 use Rattle.points.specs.declared.Refusal.TheVariants.{Same, BadPoint}
 use Rattle.points.proofs.Halves.{up, dn, sign_z, same, abs_is, add_is, sub_law, apart}
 use Rattle.points.proofs.Signed.{parts, gap_le}
 use Rattle.bends.specs.declared.Heading.{Heading}
-use Rattle.bends.specs.declared.Heading.TheVariants.{Straight, Bent, Refused}
+use Rattle.bends.specs.declared.Heading.TheVariants.{Straight, Bent}
 use Rattle.bends.specs.Bends.{steps_of, bent_of, in_line}
-use Rattle.headings.specs.Headings.{by_sign, compass_of, span_of, pick_heading, heading_of, direction_of}
+use Rattle.headings.specs.Headings.{compass_of, span_of, heading_of, direction_of}
 use Rattle.headings.specs.Lines.{ahead, StraightLeads, BentNever}
 
 -- ---- a coordinate, and steps of a sign
 
 -- the step of a sign
-abbrev offset : Sign → ℤ
-offset Minus = negsuc 0
-offset Zero = pos 0
-offset Plus = pos 1
+abbrev offset : Ordering → ℤ
+offset Less = negsuc 0
+offset Equal = pos 0
+offset Greater = pos 1
 
 offset_is : (z : ℤ) → sign_z z ≡ offset (sign_of z)
 offset_is (pos zero) = refl
@@ -38,41 +41,41 @@ offset_is (pos (suc n)) = refl
 offset_is (negsuc n) = refl
 
 -- n steps of a sign, as a difference and in size
-abbrev far : Sign → ℕ → ℤ
-far Minus zero = pos 0
-far Minus (suc n) = negsuc n
-far Zero n = pos 0
-far Plus n = pos n
+abbrev far : Ordering → ℕ → ℤ
+far Less zero = pos 0
+far Less (suc n) = negsuc n
+far Equal n = pos 0
+far Greater n = pos n
 
-abbrev size : Sign → ℕ → ℕ
-size Minus n = n
-size Zero n = 0
-size Plus n = n
+abbrev size : Ordering → ℕ → ℕ
+size Less n = n
+size Equal n = 0
+size Greater n = n
 
-far_sign : (s : Sign) (n : ℕ) → 0 < n → sign_of (far s n) ≡ s
-far_sign Minus zero h = absurd (none h)
+far_sign : (s : Ordering) (n : ℕ) → 0 < n → sign_of (far s n) ≡ s
+far_sign Less zero h = absurd (none h)
   where
     none : 0 < 0 → ⊥
     none h = omega arith
-far_sign Minus (suc n) h = refl
-far_sign Zero n h = refl
-far_sign Plus zero h = absurd (none h)
+far_sign Less (suc n) h = refl
+far_sign Equal n h = refl
+far_sign Greater zero h = absurd (none h)
   where
     none : 0 < 0 → ⊥
     none h = omega arith
-far_sign Plus (suc n) h = refl
+far_sign Greater (suc n) h = refl
 
-far_size : (s : Sign) (n : ℕ) → nat_abs (far s n) ≡ size s n
-far_size Minus zero = refl
-far_size Minus (suc n) = refl
-far_size Zero n = refl
-far_size Plus n = refl
+far_size : (s : Ordering) (n : ℕ) → nat_abs (far s n) ≡ size s n
+far_size Less zero = refl
+far_size Less (suc n) = refl
+far_size Equal n = refl
+far_size Greater n = refl
 
-far_up : (s : Sign) (n : ℕ) → (up (far s (suc n)) ≡ up (far s n) + up (offset s)) × (dn (far s (suc n)) ≡ dn (far s n) + dn (offset s))
-far_up Minus zero = (refl, refl)
-far_up Minus (suc n) = (refl, omega arith)
-far_up Zero n = (refl, refl)
-far_up Plus n = (omega arith, refl)
+far_up : (s : Ordering) (n : ℕ) → (up (far s (suc n)) ≡ up (far s n) + up (offset s)) × (dn (far s (suc n)) ≡ dn (far s n) + dn (offset s))
+far_up Less zero = (refl, refl)
+far_up Less (suc n) = (refl, omega arith)
+far_up Equal n = (refl, refl)
+far_up Greater n = (omega arith, refl)
 
 -- a difference that is 0, or n in size, is n steps of its own sign
 far_is : (z : ℤ) (n : ℕ) → (nat_abs z ≡ 0) ⊎ (nat_abs z ≡ n) → z ≡ far (sign_of z) n
@@ -86,7 +89,7 @@ far_is (negsuc k) n (inl e) = absurd (none k e)
   where
     none : (k : ℕ) → suc k ≡ 0 → ⊥
     none k e = omega arith
-far_is (negsuc k) n (inr e) = ap (far Minus) e
+far_is (negsuc k) n (inr e) = ap (far Less) e
 
 -- a coordinate after n steps
 abbrev slid : ℕ → ℤ → ℤ → ℤ
@@ -94,13 +97,13 @@ slid zero e a = a
 slid (suc n) e a = slid n e (a +ℤ e)
 
 -- n steps of a sign lead as far as that
-slid_law : (s : Sign) (n : ℕ) (a : ℤ) → up (slid n (offset s) a) + (dn a + dn (far s n)) ≡ up a + up (far s n) + dn (slid n (offset s) a)
-slid_law Minus zero a = omega arith
-slid_law Zero zero a = omega arith
-slid_law Plus zero a = omega arith
+slid_law : (s : Ordering) (n : ℕ) (a : ℤ) → up (slid n (offset s) a) + (dn a + dn (far s n)) ≡ up a + up (far s n) + dn (slid n (offset s) a)
+slid_law Less zero a = omega arith
+slid_law Equal zero a = omega arith
+slid_law Greater zero a = omega arith
 slid_law s (suc n) a = omega (arith, slid_law s n (a +ℤ offset s), add_is a (offset s), (far_up s n).0, (far_up s n).1)
 
-slid_to : (s : Sign) (n : ℕ) (a b : ℤ) → b -ℤ a ≡ far s n → slid n (offset s) a ≡ b
+slid_to : (s : Ordering) (n : ℕ) (a b : ℤ) → b -ℤ a ≡ far s n → slid n (offset s) a ≡ b
 slid_to s n a b e =
     let z = slid n (offset s) a in
     let u : up (b -ℤ a) ≡ up (far s n) = ap up e in
@@ -109,7 +112,7 @@ slid_to s n a b e =
     (omega (arith, slid_law s n a, sub_law b a, apart z, apart b, u, d))
     (omega (arith, slid_law s n a, sub_law b a, apart z, apart b, u, d))
 
-slid_from : (s : Sign) (n : ℕ) (a b : ℤ) → slid n (offset s) a ≡ b → b -ℤ a ≡ far s n
+slid_from : (s : Ordering) (n : ℕ) (a b : ℤ) → slid n (offset s) a ≡ b → b -ℤ a ≡ far s n
 slid_from s n a b e =
     let f = far s n in
     let u : up (slid n (offset s) a) ≡ up b = ap up e in
@@ -121,34 +124,34 @@ slid_from s n a b e =
 -- ---- two signs, and the direction that they give
 
 -- the nine pairs: the direction of two signs steps by each of them
-faces : (sx sy : Sign) → eqb (compass_of sx sy) 8 ≡ false → (compass_of sx sy < 8) × (dx_of (compass_of sx sy) ≡ offset sx) × (dy_of (compass_of sx sy) ≡ offset sy)
+faces : (sx sy : Ordering) → eqb (compass_of sx sy) 8 ≡ false → (compass_of sx sy < 8) × (dx_of (compass_of sx sy) ≡ offset sx) × (dy_of (compass_of sx sy) ≡ offset sy)
 unfolding off_x off_y
-faces Minus Minus e = (omega arith, refl, refl)
-faces Minus Zero e = (omega arith, refl, refl)
-faces Minus Plus e = (omega arith, refl, refl)
-faces Zero Minus e = (omega arith, refl, refl)
-faces Zero Zero e = absurd (true≢false e)
-faces Zero Plus e = (omega arith, refl, refl)
-faces Plus Minus e = (omega arith, refl, refl)
-faces Plus Zero e = (omega arith, refl, refl)
-faces Plus Plus e = (omega arith, refl, refl)
+faces Less Less e = (omega arith, refl, refl)
+faces Less Equal e = (omega arith, refl, refl)
+faces Less Greater e = (omega arith, refl, refl)
+faces Equal Less e = (omega arith, refl, refl)
+faces Equal Equal e = absurd (true≢false e)
+faces Equal Greater e = (omega arith, refl, refl)
+faces Greater Less e = (omega arith, refl, refl)
+faces Greater Equal e = (omega arith, refl, refl)
+faces Greater Greater e = (omega arith, refl, refl)
 
 -- no direction where both are zero, and nowhere else
-still : (sx sy : Sign) → eqb (compass_of sx sy) 8 ≡ true → (sx ≡ Zero) × (sy ≡ Zero)
-still Minus Minus e = absurd (true≢false (sym e))
-still Minus Zero e = absurd (true≢false (sym e))
-still Minus Plus e = absurd (true≢false (sym e))
-still Zero Minus e = absurd (true≢false (sym e))
-still Zero Zero e = (refl, refl)
-still Zero Plus e = absurd (true≢false (sym e))
-still Plus Minus e = absurd (true≢false (sym e))
-still Plus Zero e = absurd (true≢false (sym e))
-still Plus Plus e = absurd (true≢false (sym e))
+still : (sx sy : Ordering) → eqb (compass_of sx sy) 8 ≡ true → (sx ≡ Equal) × (sy ≡ Equal)
+still Less Less e = absurd (true≢false (sym e))
+still Less Equal e = absurd (true≢false (sym e))
+still Less Greater e = absurd (true≢false (sym e))
+still Equal Less e = absurd (true≢false (sym e))
+still Equal Equal e = (refl, refl)
+still Equal Greater e = absurd (true≢false (sym e))
+still Greater Less e = absurd (true≢false (sym e))
+still Greater Equal e = absurd (true≢false (sym e))
+still Greater Greater e = absurd (true≢false (sym e))
 
 -- each direction has its two signs
 record Signs (k : ℕ) : Type 0 where
-  sx : Sign
-  sy : Sign
+  sx : Ordering
+  sy : Ordering
   number : compass_of sx sy ≡ k
   across : pos (off_x k) -ℤ pos 1 ≡ offset sx
   down : pos (off_y k) -ℤ pos 1 ≡ offset sy
@@ -157,14 +160,14 @@ signs : (k : ℕ) → k < 8 → Signs k
 unfolding off_x off_y
 signs =
     by_eight Signs
-    (record { sx = Zero; sy = Minus; number = refl; across = refl; down = refl })
-    (record { sx = Plus; sy = Minus; number = refl; across = refl; down = refl })
-    (record { sx = Plus; sy = Zero; number = refl; across = refl; down = refl })
-    (record { sx = Plus; sy = Plus; number = refl; across = refl; down = refl })
-    (record { sx = Zero; sy = Plus; number = refl; across = refl; down = refl })
-    (record { sx = Minus; sy = Plus; number = refl; across = refl; down = refl })
-    (record { sx = Minus; sy = Zero; number = refl; across = refl; down = refl })
-    (record { sx = Minus; sy = Minus; number = refl; across = refl; down = refl })
+    (record { sx = Equal; sy = Less; number = refl; across = refl; down = refl })
+    (record { sx = Greater; sy = Less; number = refl; across = refl; down = refl })
+    (record { sx = Greater; sy = Equal; number = refl; across = refl; down = refl })
+    (record { sx = Greater; sy = Greater; number = refl; across = refl; down = refl })
+    (record { sx = Equal; sy = Greater; number = refl; across = refl; down = refl })
+    (record { sx = Less; sy = Greater; number = refl; across = refl; down = refl })
+    (record { sx = Less; sy = Equal; number = refl; across = refl; down = refl })
+    (record { sx = Less; sy = Less; number = refl; across = refl; down = refl })
 
 -- ---- in line
 
@@ -181,29 +184,29 @@ line_near (suc a) zero p q = or_right (eqb (suc a) 0) true refl
 line_near (suc a) (suc b) p q = line_yes (suc a) (suc b) (eq-eqb (suc a) (suc b) (omega arith))
 
 -- n steps of each of two signs are in line
-line_far : (sx sy : Sign) (n : ℕ) → in_line (size sx n) (size sy n) ≡ true
-line_far Minus Minus n = line_yes n n (eq-eqb n n refl)
-line_far Minus Zero n = or_right (eqb n 0) true refl
-line_far Minus Plus n = line_yes n n (eq-eqb n n refl)
-line_far Zero sy n = refl
-line_far Plus Minus n = line_yes n n (eq-eqb n n refl)
-line_far Plus Zero n = or_right (eqb n 0) true refl
-line_far Plus Plus n = line_yes n n (eq-eqb n n refl)
+line_far : (sx sy : Ordering) (n : ℕ) → in_line (size sx n) (size sy n) ≡ true
+line_far Less Less n = line_yes n n (eq-eqb n n refl)
+line_far Less Equal n = or_right (eqb n 0) true refl
+line_far Less Greater n = line_yes n n (eq-eqb n n refl)
+line_far Equal sy n = refl
+line_far Greater Less n = line_yes n n (eq-eqb n n refl)
+line_far Greater Equal n = or_right (eqb n 0) true refl
+line_far Greater Greater n = line_yes n n (eq-eqb n n refl)
 
 -- and as many as that, unless neither sign steps
-span_far : (sx sy : Sign) (n : ℕ) → compass_of sx sy < 8 → max (size sx n) (size sy n) ≡ n
-span_far Minus Minus n h = omega arith
-span_far Minus Zero n h = omega arith
-span_far Minus Plus n h = omega arith
-span_far Zero Minus n h = omega arith
-span_far Zero Zero n h = absurd (none h)
+span_far : (sx sy : Ordering) (n : ℕ) → compass_of sx sy < 8 → max (size sx n) (size sy n) ≡ n
+span_far Less Less n h = omega arith
+span_far Less Equal n h = omega arith
+span_far Less Greater n h = omega arith
+span_far Equal Less n h = omega arith
+span_far Equal Equal n h = absurd (none h)
   where
     none : 8 < 8 → ⊥
     none h = omega arith
-span_far Zero Plus n h = omega arith
-span_far Plus Minus n h = omega arith
-span_far Plus Zero n h = omega arith
-span_far Plus Plus n h = omega arith
+span_far Equal Greater n h = omega arith
+span_far Greater Less n h = omega arith
+span_far Greater Equal n h = omega arith
+span_far Greater Greater n h = omega arith
 
 -- in line, each difference is 0 or the larger one
 line_sizes : (a b : ℕ) → in_line a b ≡ true → ((a ≡ 0) ⊎ (a ≡ max a b)) × ((b ≡ 0) ⊎ (b ≡ max a b))
@@ -222,7 +225,7 @@ unfolding ahead
 ahead_is zero d p = refl
 ahead_is (suc n) d p = ahead_is n d (moved p d)
 
-no_size : (z : ℤ) → nat_abs z ≡ 0 → sign_of z ≡ Zero
+no_size : (z : ℤ) → nat_abs z ≡ 0 → sign_of z ≡ Equal
 no_size (pos zero) e = refl
 no_size (pos (suc n)) e = absurd (none n e)
   where
@@ -233,13 +236,13 @@ no_size (negsuc n) e = absurd (none n e)
     none : (n : ℕ) → suc n ≡ 0 → ⊥
     none n e = omega arith
 
-no_sign : (z : ℤ) → sign_of z ≡ Zero → nat_abs z ≡ 0
+no_sign : (z : ℤ) → sign_of z ≡ Equal → nat_abs z ≡ 0
 no_sign (pos zero) e = refl
-no_sign (pos (suc n)) e = absurd (none (ap (λ (s : Sign). by_sign s 1 0 1) e))
+no_sign (pos (suc n)) e = absurd (none (ap (λ (s : Ordering). match_ordering s 1 0 1) e))
   where
     none : ◌≡◌ {A = ℕ} 1 0 → ⊥
     none h = omega arith
-no_sign (negsuc n) e = absurd (none (ap (λ (s : Sign). by_sign s 1 0 1) e))
+no_sign (negsuc n) e = absurd (none (ap (λ (s : Ordering). match_ordering s 1 0 1) e))
   where
     none : ◌≡◌ {A = ℕ} 1 0 → ⊥
     none h = omega arith
@@ -255,10 +258,10 @@ apart_not a = let d = a -ℤ a in omega (arith, sub_law a a, abs_is d, apart d)
 
 -- ---- what the heading from a to b means
 
-abbrev Means : Point → Point → Heading → Type 0
-Means a b (Straight d n) = (0 < n) × (d.number < 8) × (ahead n d.number a ≡ b)
-Means a b (Bent d n) = Unit {0}
-Means a b (Refused r) = a ≡ b
+abbrev Means : Point → Point → Result Heading Refusal → Type 0
+Means a b (Ok (Straight d n)) = (0 < n) × (d.number < 8) × (ahead n d.number a ≡ b)
+Means a b (Ok (Bent d n)) = Unit {0}
+Means a b (Err r) = a ≡ b
 
 module _ (a b : Point) where
   abbrev zx : ℤ
@@ -278,7 +281,7 @@ module _ (a b : Point) where
       true≢false (sym (eq-eqb number 8 z) ∙ e)
 
   means_at : (t : Bool) → eqb number 8 ≡ t → (l : Bool) → in_line (nat_abs zx) (nat_abs zy) ≡ l
-      → Means a b (pick_heading t (Refused (Same a)) (pick_heading l (Straight (dir number) (span_of a b)) (Bent (dir number) (span_of a b))))
+      → Means a b (cond t (Err (Same a)) (cond l (Ok (Straight (dir number) (span_of a b))) (Ok (Bent (dir number) (span_of a b)))))
   means_at true e l f =
       let z = still (sign_of zx) (sign_of zy) e in
       λ i. record { x = met a.x b.x (no_sign zx z.0) i; y = met a.y b.y (no_sign zy z.1) i }
@@ -319,7 +322,7 @@ module _ (a b : Point) where
     ahead_signs = (offset_is zx ∙ ap offset sign_x ∙ sym by.across, offset_is zy ∙ ap offset sign_y ∙ sym by.down)
 
     -- and so it is straight
-    led : heading_of a b ≡ Straight (dir (d % 8)) n
+    led : heading_of a b ≡ Ok (Straight (dir (d % 8)) n)
     led =
         let ax : nat_abs zx ≡ size by.sx n = ap nat_abs far_x ∙ far_size by.sx n in
         let ay : nat_abs zy ≡ size by.sy n = ap nat_abs far_y ∙ far_size by.sy n in
@@ -328,14 +331,14 @@ module _ (a b : Point) where
         let l : in_line (nat_abs zx) (nat_abs zy) ≡ true = (λ i. in_line (ax i) (ay i)) ∙ line_far by.sx by.sy n in
         let m : span_of a b ≡ n = (λ i. max (ax i) (ay i)) ∙ span_far by.sx by.sy n low in
         let u : eqb number 8 ≡ false = ne_eqb number 8 (under number k) in
-        (λ i. pick_heading (u i) (Refused (Same a)) (pick_heading (l i) (Straight (dir (k i)) (m i)) (Bent (dir (k i)) (m i))))
+        (λ i. cond (u i) (Err (Same a)) (cond (l i) (Ok (Straight (dir (k i)) (m i))) (Ok (Bent (dir (k i)) (m i)))))
       where
         under : (j : ℕ) → j ≡ d % 8 → j ≡ 8 → ⊥
         under j p q = omega arith
 
   -- ---- how many steps lead there
   steps_at : (t : Bool) → eqb number 8 ≡ t → (l : Bool)
-      → steps_of (pick_heading t (Refused (Same a)) (pick_heading l (Straight (dir number) (span_of a b)) (Bent (dir number) (span_of a b)))) ≡ span_of a b
+      → steps_of (cond t (Err (Same a)) (cond l (Ok (Straight (dir number) (span_of a b))) (Ok (Bent (dir number) (span_of a b))))) ≡ span_of a b
   steps_at true e l =
       let z = still (sign_of zx) (sign_of zy) e in
       omega (arith, no_sign zx z.0, no_sign zy z.1)
@@ -354,13 +357,13 @@ module _ (a b : Point) where
   pub direction_short : steps_of (direction_of a b) ≤ 2047
   direction_short = go (legal a) refl (legal b) refl
     where
-      go : (s : Bool) → legal a ≡ s → (t : Bool) → legal b ≡ t → steps_of (pick_heading s (pick_heading t (heading_of a b) (Refused (BadPoint b))) (Refused (BadPoint a))) ≤ 2047
+      go : (s : Bool) → legal a ≡ s → (t : Bool) → legal b ≡ t → steps_of (cond s (cond t (heading_of a b) (Err (BadPoint b))) (Err (BadPoint a))) ≤ 2047
       go false e t f = omega arith
       go true e false f = omega arith
       go true e true f = steps_short (subst T (sym e) tt) (subst T (sym f) tt)
 
   -- ---- points in line are not bent
-  unbent_at : (t l : Bool) → l ≡ true → bent_of (pick_heading t (Refused (Same a)) (pick_heading l (Straight (dir number) (span_of a b)) (Bent (dir number) (span_of a b)))) ≡ false
+  unbent_at : (t l : Bool) → l ≡ true → bent_of (cond t (Err (Same a)) (cond l (Ok (Straight (dir number) (span_of a b))) (Ok (Bent (dir number) (span_of a b))))) ≡ false
   unbent_at true l e = refl
   unbent_at false true e = refl
   unbent_at false false e = sym e
@@ -370,11 +373,11 @@ module _ (a b : Point) where
   near_unbent p q = unbent_at (eqb number 8) (in_line (nat_abs zx) (nat_abs zy)) (line_near (nat_abs zx) (nat_abs zy) p q)
 
 -- a point heads nowhere from itself
-heads_not : (a : Point) → heading_of a a ≡ Refused (Same a)
+heads_not : (a : Point) → heading_of a a ≡ Err (Same a)
 heads_not a =
     let x = no_size (a.x -ℤ a.x) (apart_not a.x) in
     let y = no_size (a.y -ℤ a.y) (apart_not a.y) in
-    λ i. pick_heading (eqb (compass_of (x i) (y i)) 8) (Refused (Same a)) (pick_heading (in_line (nat_abs (a.x -ℤ a.x)) (nat_abs (a.y -ℤ a.y))) (Straight (dir (compass_of (x i) (y i))) (span_of a a)) (Bent (dir (compass_of (x i) (y i))) (span_of a a)))
+    λ i. cond (eqb (compass_of (x i) (y i)) 8) (Err (Same a)) (cond (in_line (nat_abs (a.x -ℤ a.x)) (nat_abs (a.y -ℤ a.y))) (Ok (Straight (dir (compass_of (x i) (y i))) (span_of a a))) (Ok (Bent (dir (compass_of (x i) (y i))) (span_of a a))))
 
 -- ---- the two laws
 
@@ -392,7 +395,7 @@ bent_never = record { never = λ a b e. (λ z. same_not a b z e, λ d n z. steps
     steps_not a b d zero z e = same_not a b z e
     steps_not a b d (suc n) z e = true≢false (sym e ∙ ap bent_of (led a b d (suc n) (omega arith) z))
 
-    go : (a b : Point) → (a ≡ b → ⊥) → ((d n : ℕ) → ahead n d a ≡ b → ⊥) → (h : Heading) → heading_of a b ≡ h → bent_of h ≡ true
-    go a b f g (Straight d n) e = absurd (g d.number n (subst (Means a b) e (means a b)).2)
-    go a b f g (Bent d n) e = refl
-    go a b f g (Refused r) e = absurd (f (subst (Means a b) e (means a b)))
+    go : (a b : Point) → (a ≡ b → ⊥) → ((d n : ℕ) → ahead n d a ≡ b → ⊥) → (h : Result Heading Refusal) → heading_of a b ≡ h → bent_of h ≡ true
+    go a b f g (Ok (Straight d n)) e = absurd (g d.number n (subst (Means a b) e (means a b)).2)
+    go a b f g (Ok (Bent d n)) e = refl
+    go a b f g (Err r) e = absurd (f (subst (Means a b) e (means a b)))

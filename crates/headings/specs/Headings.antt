@@ -1,49 +1,43 @@
 -- The direction from one point to another, straight or bent, and how many steps lead there. Assumes nothing: these are definitions.
-use Rattle.std.specs.Prelude.{Bool, true, false, ℕ, max, eqb, nat_abs, ◌-ℤ◌}
-use Rattle.points.specs.Plane.{legal}
+use Rattle.std.specs.Prelude.{Bool, cond, Option, Some, None, Result, Ok, Err, ℕ, max, eqb, nat_abs, ◌-ℤ◌}
+use Rattle.points.specs.Refusals.{of_legal}
 use Rattle.points.specs.Compass.{dir, sign_of}
 use Rattle.points.specs.declared.Point.{Point}
-use Rattle.points.specs.declared.Sign.{Sign}
-use Rattle.points.specs.declared.Sign.TheVariants.{Minus, Zero, Plus}
-use Rattle.points.specs.declared.Refusal.TheVariants.{Same, BadPoint}
+use Rattle.std.specs.Ordering.{match_ordering}
+use Rattle.std.specs.declared.cmp.Ordering.{Ordering}
+use Rattle.std.specs.declared.cmp.Ordering.TheVariants.{Less, Equal, Greater}
+use Rattle.points.specs.declared.Direction.{Direction}
+use Rattle.points.specs.declared.Refusal.{Refusal}
+use Rattle.points.specs.declared.Refusal.TheVariants.{Same}
 use Rattle.bends.specs.declared.Heading.{Heading}
-use Rattle.bends.specs.declared.Heading.TheVariants.{Straight, Bent, Refused}
+use Rattle.bends.specs.declared.Heading.TheVariants.{Straight, Bent}
 use Rattle.bends.specs.Bends.{in_line}
 
--- one of three, by a sign
-abbrev pub by_sign : Sign → ℕ → ℕ → ℕ → ℕ
-by_sign Minus a b c = a
-by_sign Zero a b c = b
-by_sign Plus a b c = c
-
 -- the number of the direction that the signs of the two differences give, 8 where both are zero
-abbrev pub compass_of : Sign → Sign → ℕ
-compass_of Minus s = by_sign s 7 6 5
-compass_of Zero s = by_sign s 0 8 4
-compass_of Plus s = by_sign s 1 2 3
+abbrev pub compass_of : Ordering → Ordering → ℕ
+compass_of Less s = match_ordering s 7 6 5
+compass_of Equal s = match_ordering s 0 8 4
+compass_of Greater s = match_ordering s 1 2 3
+
+-- the direction that the signs give; none where both are zero
+abbrev pub towards_of : Ordering → Ordering → Option Direction
+towards_of s t = cond (eqb (compass_of s t) 8) None (Some (dir (compass_of s t)))
 
 -- how many steps lead from a to b: the larger of the two differences
 abbrev pub span_of : Point → Point → ℕ
 span_of a b = max (nat_abs (b.x -ℤ a.x)) (nat_abs (b.y -ℤ a.y))
 
-abbrev pub pick_heading : Bool → Heading → Heading → Heading
-pick_heading true a b = a
-pick_heading false a b = b
-
 -- the direction of a number with so many steps, straight where the points are in line; or SAME, which carries the point p
-abbrev pub heading_at : Point → ℕ → Bool → ℕ → Heading
-heading_at p n line steps = pick_heading (eqb n 8) (Refused (Same p)) (pick_heading line (Straight (dir n) steps) (Bent (dir n) steps))
+abbrev pub heading_at : Point → ℕ → Bool → ℕ → Result Heading Refusal
+heading_at p n line steps = cond (eqb n 8) (Err (Same p)) (cond line (Ok (Straight (dir n) steps)) (Ok (Bent (dir n) steps)))
 
 -- the direction from a to b by the sign of each coordinate difference; straight where the points are in line, with its length, else bent, with the larger difference
-abbrev pub heading_of : Point → Point → Heading
+abbrev pub heading_of : Point → Point → Result Heading Refusal
 heading_of a b =
     heading_at a (compass_of (sign_of (b.x -ℤ a.x)) (sign_of (b.y -ℤ a.y)))
     (in_line (nat_abs (b.x -ℤ a.x)) (nat_abs (b.y -ℤ a.y)))
     (span_of a b)
 
 -- POINT (first, then second), then SAME
-abbrev pub direction_of : Point → Point → Heading
-direction_of a b =
-    pick_heading (legal a)
-    (pick_heading (legal b) (heading_of a b) (Refused (BadPoint b)))
-    (Refused (BadPoint a))
+abbrev pub direction_of : Point → Point → Result Heading Refusal
+direction_of a b = of_legal a b (heading_of a b)

@@ -1,5 +1,5 @@
 -- What straight and bent mean: whether steps of one direction lead from a point to another. Assumes nothing: these are definitions and statements.
-use Rattle.std.specs.Prelude.{◌≡◌, true, ℕ, zero, suc, ◌%◌, ◌<◌}
+use Rattle.std.specs.Prelude.{◌≡◌, Ok, true, ℕ, zero, suc, ◌%◌, ◌<◌}
 use Rattle.points.specs.Compass.{dir, moved}
 use Rattle.points.specs.declared.Point.{Point}
 use Rattle.points.specs.declared.Direction.{Direction}
@@ -14,8 +14,8 @@ ahead (suc n) d p = ahead n d (moved p d)
 
 -- LAW, for whoever drives a leg or takes one from outside: straight with the direction d and the length n exactly if n steps of d, at least one, lead from a to b
 pub record StraightLeads : Type 0 where
-  pub leads : (a b : Point) (d : Direction) (n : ℕ) → heading_of a b ≡ Straight d n → (0 < n) × (d.number < 8) × (ahead n d.number a ≡ b)
-  pub led : (a b : Point) (d n : ℕ) → 0 < n → ahead n d a ≡ b → heading_of a b ≡ Straight (dir (d % 8)) n
+  pub leads : (a b : Point) (d : Direction) (n : ℕ) → heading_of a b ≡ Ok (Straight d n) → (0 < n) × (d.number < 8) × (ahead n d.number a ≡ b)
+  pub led : (a b : Point) (d n : ℕ) → 0 < n → ahead n d a ≡ b → heading_of a b ≡ Ok (Straight (dir (d % 8)) n)
 
 -- LAW: bent exactly if the points differ and no number of equal steps leads from a to b
 pub record BentNever : Type 0 where

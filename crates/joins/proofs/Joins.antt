@@ -8,7 +8,7 @@ use native.Mathlib.Numerals.{add-one}
 use lib.ListN.{length, get_or, drop, drop_of_length-le}
 use lib.Seq.{drop-cons}
 use lib.Dec.{T, eqb, ltb, leb, ltb→lt, leb→le}
-use borrow.Author.Tests.{lt-ltb, le-ltb, eq-eqb, ne_eqb, ltb-true, eqb-true}
+use borrow.Author.Tests.{lt-ltb, eq-eqb, ltb-true, eqb-true}
 use Rattle.components.specs.Components.{Links, united, Forest, Light}
 use Rattle.components.proofs.Roots
 use Rattle.components.proofs.Weight
@@ -30,18 +30,6 @@ join_cases P n blocked i c u none some = go (ltb c n) (eqb (get_or blocked c 0) 
 pub join_free : (n : ℕ) (blocked : List ℕ) (i c : ℕ) (u : Links) → c < n → get_or blocked c 0 ≡ 0 → join_cell n blocked i c u ≡ united u.parent u.rank i c
 unfolding join_cell
 join_free n blocked i c u h e = rw (lt-ltb c n h, eq-eqb (get_or blocked c 0) 0 e)
-
-pub join_taken : (n : ℕ) (blocked : List ℕ) (i c : ℕ) (u : Links) → c < n → (get_or blocked c 0 ≡ 0 → ⊥) → join_cell n blocked i c u ≡ u
-unfolding join_cell
-join_taken n blocked i c u h e = rw (lt-ltb c n h, ne_eqb (get_or blocked c 0) 0 e)
-
-pub join_out : (n : ℕ) (blocked : List ℕ) (i c : ℕ) (u : Links) → n ≤ c → join_cell n blocked i c u ≡ u
-unfolding join_cell
-join_out n blocked i c u h = rw (le-ltb c n h)
-
--- what `join_cell` leaves where it calls `union`
-pub uf_eq : (q l : List ℕ) (v : Links) → q ≡ v.parent → l ≡ v.rank → ◌≡◌ {A = Links} (record { parent = q; rank = l }) v
-uf_eq q l v e f = rw (e, f)
 
 -- a legal state with ranks at most b, and the lengths of u
 pub record Kept (b n : ℕ) (u v : Links) : Type 0 where
@@ -98,21 +86,12 @@ module _ {m : ℕ} (small : m ≤ 254) (w h : ℕ) (blocked : List ℕ) (u : Lin
 pub ways : (l : List ℕ) → T (leb (length l) 8) → T (all (λ i. ltb (get_or l i 0) 8) (length l)) → Ways l
 ways l few each = record { few = leb→le (length l) 8 few; each = λ k h. ltb→lt _ 8 (of_all (λ i. ltb (get_or l i 0) 8) (length l) each k h) }
 
-pub joined_as : (w h : ℕ) (blocked : List ℕ) (x y : ℕ) (l m : List ℕ) (u v : Links) → v ≡ joined_to w h blocked x y l u → l ≡ m → v ≡ joined_to w h blocked x y m u
-joined_as w h blocked x y l m u v e q = rw q at e
-
-pub around_on : (d : Bool) → d ≡ true → (0 ∷ 1 ∷ 2 ∷ 3 ∷ 4 ∷ 5 ∷ 6 ∷ 7 ∷ []) ≡ around d
+pub ways_around : (d : Bool) → Ways (around d)
 unfolding around
-around_on d e = rw e
+ways_around true = ways _ tt tt
+ways_around false = ways _ tt tt
 
-pub around_off : (d : Bool) → d ≡ false → (0 ∷ 2 ∷ 4 ∷ 6 ∷ []) ≡ around d
-unfolding around
-around_off d e = rw e
-
-pub ahead_on : (d : Bool) → d ≡ true → (4 ∷ 0 ∷ 2 ∷ 1 ∷ 2 ∷ 3 ∷ []) ≡ ahead d
+pub ways_ahead : (d : Bool) → Ways (ahead d)
 unfolding ahead
-ahead_on d e = rw e
-
-pub ahead_off : (d : Bool) → d ≡ false → (4 ∷ 0 ∷ 2 ∷ []) ≡ ahead d
-unfolding ahead
-ahead_off d e = rw e
+ways_ahead true = ways _ tt tt
+ways_ahead false = ways _ tt tt

@@ -1,5 +1,5 @@
 -- Jumps over the cells of a grid, and where they stop. Assumes nothing: these are definitions.
-use Rattle.std.specs.Prelude.{Bool, not, List, ℕ, ◌+◌, ◌%◌, ℤ}
+use Rattle.std.specs.Prelude.{Bool, not, List, Option, ℕ, ◌+◌, ◌%◌, ℤ}
 use Rattle.goals.specs.declared.Plan.{Plan}
 use Rattle.goals.specs.Goals.{both, either}
 use Rattle.stops.specs.declared.Cell.{Cell}
@@ -15,6 +15,6 @@ halts_at blocked forced goals p d x y =
     (both (not p.settings.diagonal) (sees_either blocked forced goals p ((d + 2) % 8) ((d + 6) % 8) x y)))
 
 -- a jump from a cell: the first step is at the caller's price, later ones at their own
-unfoldable pub jump_of : List ℕ → List ℕ → List ℤ → Plan → ℕ → Cell → ℕ → Jump
+unfoldable pub jump_of : List ℕ → List ℕ → List ℤ → Plan → ℕ → Cell → ℕ → Option Jump
 jump_of blocked forced goals p d from price =
     run_on blocked p (halts_at blocked forced goals p d) d (price_of d) from.x from.y price

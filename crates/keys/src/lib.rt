@@ -24,8 +24,5 @@ pub fn cost_of(key: u64) -> u64
 {
     let estimate = MOST_ESTIMATE - key / GUESSES;
     let guess = MOST_GUESS - key % GUESSES;
-    if estimate < guess {
-        return 0;
-    }
-    estimate - guess
+    estimate.saturating_sub(guess)
 }

@@ -11,12 +11,11 @@ use Rattle.bends.specs.Bends.{bent_of}
 use Rattle.headings.specs.Headings.{heading_of}
 use Rattle.pairs.specs.Pairs.{point}
 use Rattle.legs.specs.Legs.{bent_from, first_bent_of, bent_leg, Least, FirstIsLeast}
-use Rattle.legs.specs.declared.Bend.{Bend}
-use Rattle.legs.specs.declared.Bend.TheVariants.{Leg, None}
+use Rattle.std.specs.Prelude.{Option, Some, None}
 
 -- the least of the legs of w, whose first has the number k
-abbrev LeastFrom : ℕ → List ℤ → Bend → Type 0
-LeastFrom k w (Leg j) = (k ≤ j) × (2 * (j - k) + 3 < length w) × (bent_leg w (j - k + 1) ≡ true) × ((i : ℕ) → i < j - k → bent_leg w (i + 1) ≡ false)
+abbrev LeastFrom : ℕ → List ℤ → Option ℕ → Type 0
+LeastFrom k w (Some j) = (k ≤ j) × (2 * (j - k) + 3 < length w) × (bent_leg w (j - k + 1) ≡ true) × ((i : ℕ) → i < j - k → bent_leg w (i + 1) ≡ false)
 LeastFrom k w None = (i : ℕ) → 2 * i + 3 < length w → bent_leg w (i + 1) ≡ false
 
 -- a waypoint in front: each leg has a number more
@@ -36,8 +35,8 @@ later a b w i = λ j. bent_of (heading_of (point (get_or (a ∷ b ∷ w) (from j
     to_y = omega arith
 
 module _ (a b : ℤ) (w : List ℤ) (k : ℕ) (first : bent_leg (a ∷ b ∷ w) 1 ≡ false) where
-  one_more : (s : Bend) → LeastFrom (k + 1) w s → LeastFrom k (a ∷ b ∷ w) s
-  one_more (Leg j) (h, room, bent, before) =
+  one_more : (s : Option ℕ) → LeastFrom (k + 1) w s → LeastFrom k (a ∷ b ∷ w) s
+  one_more (Some j) (h, room, bent, before) =
       let e : j - k ≡ suc (j - (k + 1)) = omega arith in
       (omega arith, omega arith, ap (λ (n : ℕ). bent_leg (a ∷ b ∷ w) (n + 1)) e ∙ later a b w (j - (k + 1)) ∙ bent, before_it e)
     where
@@ -63,15 +62,15 @@ from (x ∷ []) p k = λ i h. absurd (none i h)
 from (x ∷ y ∷ m) p k = go (bent_of (heading_of p (point x y))) refl (from m (point x y) (k + 1))
   where
     go : (t : Bool) → bent_of (heading_of p (point x y)) ≡ t → LeastFrom (k + 1) (x ∷ y ∷ m) (bent_from (k + 1) (point x y) m)
-        → LeastFrom k (p.x ∷ p.y ∷ x ∷ y ∷ m) (cond t (Leg k) (bent_from (k + 1) (point x y) m))
+        → LeastFrom k (p.x ∷ p.y ∷ x ∷ y ∷ m) (cond t (Some k) (bent_from (k + 1) (point x y) m))
     go true e rest = let z : k - k ≡ 0 = omega arith in (omega arith, omega arith, ap (λ (n : ℕ). bent_leg (p.x ∷ p.y ∷ x ∷ y ∷ m) (n + 1)) z ∙ e, λ i l. absurd (none i l))
       where
         none : (i : ℕ) → i < k - k → ⊥
         none i l = omega arith
     go false e rest = one_more p.x p.y (x ∷ y ∷ m) k e (bent_from (k + 1) (point x y) m) rest
 
-whole : (l : List ℤ) (s : Bend) → LeastFrom 1 l s → Least l s
-whole l (Leg j) (h, room, bent, before) =
+whole : (l : List ℤ) (s : Option ℕ) → LeastFrom 1 l s → Least l s
+whole l (Some j) (h, room, bent, before) =
     let e : j - 1 + 1 ≡ j = omega arith in
     (omega arith, omega arith, ap (bent_leg l) (sym e) ∙ bent, go)
   where

@@ -1,69 +1,25 @@
-// Lines of a text: the reader. A line is a word, a number or a point, and a newline; what was read comes with the count of the line's bytes.
+// Lines of a text: the reader. A line is a word, a number or a point, and a newline; what was read of it comes with the text after the line.
 #![tactic(auto)]
 
-ghost use Rattle.std.specs.Prelude.{◌≡◌, ◌≤◌, drop};
-ghost use Rattle.lines.specs.Lines.{starts_with, number_line, point_line};
+ghost use Rattle.std.specs.Prelude.{◌≤◌};
+ghost use Rattle.text.specs.Grammar.{Reads};
+ghost use Rattle.lines.specs.Lines.{number_line, point_line};
 
-use text::{Num, Pair};
-
-// Whether the text at a place begins with a word.
-pub fn starts(s: &[u8], at: usize, word: &[u8]) -> bool
-    ensures { result ≡ starts_with word.now (drop at s.now) }
-{
-    let mut i = at;
-    let mut j = 0;
-    while j < word.len() {
-        if s.len() <= i {
-            return false;
-        }
-        if s[i] != word[j] {
-            return false;
-        }
-        i += 1;
-        j += 1;
-    }
-    true
-}
+use points::Point;
 
 // A line: a word, a number of at most limit, a newline.
-pub fn number_line(s: &[u8], at: usize, word: &[u8], limit: u32) -> Num
+pub fn number_line<'a>(s: &'a [u8], word: &[u8], limit: u32) -> Option<(u32, &'a [u8])>
     requires { (9 ≤ limit) × (limit ≤ 1024) }
-    ensures { result ≡ number_line word.now limit (drop at s.now) }
+    ensures { Reads s.now (number_line word.now limit s.now) result }
 {
-    if !starts(s, at, word) {
-        return Num::Wrong;
-    }
-    let from = at + word.len();
-    let Num::Whole(v, n) = text::number(s, from, limit) else {
-        return Num::Wrong;
-    };
-    let end = from + n;
-    if s.len() <= end {
-        return Num::Wrong;
-    }
-    if s[end] != 10 {
-        return Num::Wrong;
-    }
-    Num::Whole(v, word.len() + n + 1)
+    let (v, rest) = text::number(s.strip_prefix(word)?, limit)?;
+    Some((v, rest.strip_prefix(b"\n")?))
 }
 
 // A line: a word, two coordinates, a newline.
-pub fn point_line(s: &[u8], at: usize, word: &[u8]) -> Pair
-    ensures { result ≡ point_line word.now (drop at s.now) }
+pub fn point_line<'a>(s: &'a [u8], word: &[u8]) -> Option<(Point, &'a [u8])>
+    ensures { Reads s.now (point_line word.now s.now) result }
 {
-    if !starts(s, at, word) {
-        return Pair::Neither;
-    }
-    let from = at + word.len();
-    let Pair::Both(p, n) = text::pair_at(s, from) else {
-        return Pair::Neither;
-    };
-    let end = from + n;
-    if s.len() <= end {
-        return Pair::Neither;
-    }
-    if s[end] != 10 {
-        return Pair::Neither;
-    }
-    Pair::Both(p, word.len() + n + 1)
+    let (p, rest) = text::pair(s.strip_prefix(word)?)?;
+    Some((p, rest.strip_prefix(b"\n")?))
 }

@@ -1,3 +1,1 @@
-mod Past
-mod Signs
 mod Patterns

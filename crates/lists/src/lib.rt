@@ -1,7 +1,7 @@
 // Numbers in a list of bytes, least byte first. Past the list's end every byte reads as 0, so no place in it is out of bounds.
 #![tactic(auto)]
 
-ghost use Rattle.std.specs.Prelude.{◌≡◌, ◌≤◌, ◌<◌, negsuc};
+ghost use Rattle.std.specs.Prelude.{◌≡◌, ◌<◌};
 ghost use Rattle.std.specs.Float.Ieee.{of_bits};
 ghost use Rattle.std.specs.Float.{binary32};
 ghost use Rattle.lists.specs.Numbers.{byte_at, pair_at, word_at, signed_of};
@@ -10,16 +10,7 @@ ghost use Rattle.lists.specs.Numbers.{byte_at, pair_at, word_at, signed_of};
 pub fn u8_at(s: &[u8], at: usize) -> u8
     ensures { result ≡ byte_at s.now at }
 {
-    if at < s.len() {
-        return s[at];
-    }
-    0
-}
-
-fn wide(b: u8) -> u32
-    ensures { (result ≡ b) × (result < 256) }
-{
-    b as u32
+    s.get(at).copied().unwrap_or(0)
 }
 
 // The number of two bytes.
@@ -29,7 +20,7 @@ pub fn u16_at(s: &[u8], at: usize) -> u32
     if s.len() <= at {
         return 0;
     }
-    wide(u8_at(s, at)) + 256 * wide(u8_at(s, at + 1))
+    u32::from(u8_at(s, at)) + 256 * u32::from(u8_at(s, at + 1))
 }
 
 // The number of four bytes.
@@ -42,34 +33,18 @@ pub fn u32_at(s: &[u8], at: usize) -> u32
     u16_at(s, at) + 65536 * u16_at(s, at + 2)
 }
 
-// -1 - k.
-fn below_zero(k: u32) -> i32
-    requires { k < 2147483648 }
-    ensures { result ≡ negsuc k }
-{
-    -1 - k as i32
-}
-
 // The signed number of two bytes.
 pub fn i16_at(s: &[u8], at: usize) -> i32
     ensures { result ≡ signed_of 32768 (pair_at s.now at) }
 {
-    let v = u16_at(s, at);
-    if v < 32768 {
-        return v as i32;
-    }
-    below_zero(65535 - v)
+    i32::from((u16_at(s, at) as u16).cast_signed())
 }
 
 // The signed number of four bytes.
 pub fn i32_at(s: &[u8], at: usize) -> i32
     ensures { result ≡ signed_of 2147483648 (word_at s.now at) }
 {
-    let v = u32_at(s, at);
-    if v < 2147483648 {
-        return v as i32;
-    }
-    below_zero(4294967295 - v)
+    u32_at(s, at).cast_signed()
 }
 
 // The float of four bytes; every NaN's pattern is a NaN.

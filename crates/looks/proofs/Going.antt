@@ -3,6 +3,7 @@
 use mathlib.Core.Path.{◌≡◌, refl}
 use mathlib.Core.Bool.{Bool, true, false}
 use mathlib.Core.List.{List, [], ◌∷◌}
+use Rattle.std.specs.Prelude.{Option, Some, None}
 use Prim.Native.Nat.{ℕ, zero, suc, ◌+◌, ◌-◌, ◌*◌, ◌%◌, ◌≤◌, ◌<◌}
 use native.Mathlib.Nat.{mod-lt}
 use native.Mathlib.Omega.{arith}
@@ -11,10 +12,9 @@ use lib.ListN.{get_or}
 use Rattle.directions.specs.Offsets.{off_x, off_y}
 use Rattle.directions.proofs.Eight.{by_eight}
 use Rattle.goals.specs.Goals.{most_side}
-use Rattle.stops.specs.Stops.{Within, free_at}
+use Rattle.stops.specs.Stops.{Within, landing, free_at}
 use Rattle.looks.specs.Looks.{found, run}
 use Rattle.stops.specs.declared.Jump.{Jump}
-use Rattle.stops.specs.declared.Jump.TheVariants.{At, Nothing}
 use Rattle.stops.proofs.Laws.{free_inside}
 
 -- an offset leads at most one cell away, and not nowhere
@@ -81,34 +81,34 @@ left_le (suc (suc (suc o))) oy w h x y side i a b = omega (arith, i.left, i.righ
 
 module _ (blocked : List ℕ) (w h : ℕ) (stops : ℕ → ℕ → Bool) (ox oy price : ℕ) where
   -- the loop's invariant: what is to be found from here is the answer
-  pub record Going (answer : Jump) (x y cost : ℕ) : Type 0 where
+  pub record Going (answer : Option Jump) (x y cost : ℕ) : Type 0 where
     pub inside : Within w h x y
     pub fuel : ℕ
     pub enough : left ox oy w h x y < fuel
     pub same : run (free_at blocked w h) stops ox oy price fuel x y cost ≡ answer
     pub cheap : cost + 99 * left ox oy w h x y ≤ 99 * most_side
 
-  pub start : (answer : Jump) (x y cost : ℕ) → Within w h x y → w ≤ most_side → h ≤ most_side → cost ≤ 99 → run (free_at blocked w h) stops ox oy price (w + h) x y cost ≡ answer → Going answer x y cost
+  pub start : (answer : Option Jump) (x y cost : ℕ) → Within w h x y → w ≤ most_side → h ≤ most_side → cost ≤ 99 → run (free_at blocked w h) stops ox oy price (w + h) x y cost ≡ answer → Going answer x y cost
   start answer x y cost i hw hh hc e =
       let a = left_le ox oy w h x y most_side i hw hh in
       let b = left_le ox oy w h x y (w + h) i (omega arith) (omega arith) in
       record { inside = i; fuel = w + h; enough = omega arith; same = e; cheap = omega arith }
 
   -- one turn, by the fuel
-  turn : (n x y cost : ℕ) (answer : Jump) → 1 ≤ n → run (free_at blocked w h) stops ox oy price n x y cost ≡ answer → found (free_at blocked w h (x + ox - 1) (y + oy - 1)) (stops (x + ox - 1) (y + oy - 1)) (At (record { x = x + ox - 1; y = y + oy - 1 }) cost) (run (free_at blocked w h) stops ox oy price (n - 1) (x + ox - 1) (y + oy - 1) (cost + price)) ≡ answer
+  turn : (n x y cost : ℕ) (answer : Option Jump) → 1 ≤ n → run (free_at blocked w h) stops ox oy price n x y cost ≡ answer → found (free_at blocked w h (x + ox - 1) (y + oy - 1)) (stops (x + ox - 1) (y + oy - 1)) (Some (landing (record { x = x + ox - 1; y = y + oy - 1 }) cost)) (run (free_at blocked w h) stops ox oy price (n - 1) (x + ox - 1) (y + oy - 1) (cost + price)) ≡ answer
   unfolding run
   turn zero x y cost answer l e = absurd (omega arith)
   turn (suc n) x y cost answer l e = let z : suc n - 1 ≡ n = omega arith in rw z e
 
-  module _ (answer : Jump) (x y cost : ℕ) (m : Moves ox oy) (g : Going answer x y cost) where
+  module _ (answer : Option Jump) (x y cost : ℕ) (m : Moves ox oy) (g : Going answer x y cost) where
     some : 1 ≤ g.fuel
     some = omega (arith, g.enough)
 
-    pub nothing : free_at blocked w h (x + ox - 1) (y + oy - 1) ≡ false → Nothing ≡ answer
+    pub nothing : free_at blocked w h (x + ox - 1) (y + oy - 1) ≡ false → None ≡ answer
     nothing e = rw e at (turn g.fuel x y cost answer some g.same)
 
     module _ (e : free_at blocked w h (x + ox - 1) (y + oy - 1) ≡ true) where
-      pub here : stops (x + ox - 1) (y + oy - 1) ≡ true → At (record { x = x + ox - 1; y = y + oy - 1 }) cost ≡ answer
+      pub here : stops (x + ox - 1) (y + oy - 1) ≡ true → Some (landing (record { x = x + ox - 1; y = y + oy - 1 }) cost) ≡ answer
       here f = rw (e, f) at (turn g.fuel x y cost answer some g.same)
 
       next : Within w h (x + ox - 1) (y + oy - 1)

@@ -1,15 +1,16 @@
 -- Stepping by cell numbers: how many cells lie ahead, and the number of the next one. Assumes nothing.
 use mathlib.Core.Path.{◌≡◌, refl, sym, ◌∙◌, ap}
-use mathlib.Core.Bool.{Bool, true, false, true≢false}
+use mathlib.Core.Bool.{Bool, true, false}
 use mathlib.Core.List.{List}
+use Rattle.std.specs.Prelude.{Option}
 use Prim.Native.Nat.{ℕ, zero, suc, ◌+◌, ◌-◌, ◌*◌, ◌≤◌, ◌<◌, min}
 use native.Mathlib.Nat.{add-mul, one-mul}
 use native.Mathlib.Omega.{arith}
 use borrow.Author.Tests.{eq-eqb, ne_eqb}
 use lib.Dec.{eqb}
 use lib.ListN.{get_or}
-use Rattle.stops.specs.Stops.{Within, number_of, byte_at, free_at, within}
-use Rattle.looks.specs.Looks.{ahead_of, reach_of}
+use Rattle.stops.specs.Stops.{Within, number_of, byte_at, free_at}
+use Rattle.looks.specs.Looks.{reach_of}
 use Rattle.stops.specs.declared.Jump.{Jump}
 use Rattle.stops.proofs.Laws.{place_lt, within_true, free_inside}
 use Rattle.looks.proofs.Going.{Moves, Going, on}
@@ -100,19 +101,19 @@ free_out blocked w h x y n = go (free_at blocked w h x y) refl
 
 module _ (blocked : List ℕ) (w h : ℕ) (stops : ℕ → ℕ → Bool) (ox oy price : ℕ) where
   -- the loop's invariant: what is to be found from a cell is the answer, its number is i, and so many cells lie ahead of it
-  pub record Numbered (answer : Jump) (x y cost left i : ℕ) : Type 0 where
+  pub record Numbered (answer : Option Jump) (x y cost left i : ℕ) : Type 0 where
     pub going : Going blocked w h stops ox oy price answer x y cost
     pub here : i ≡ number_of w x y
     pub ahead : left ≡ reach_of ox oy w h x y
 
   -- the same of some cell, at whatever cost
-  pub record Looking (answer : Jump) (left i : ℕ) : Type 0 where
+  pub record Looking (answer : Option Jump) (left i : ℕ) : Type 0 where
     pub x : ℕ
     pub y : ℕ
     pub cost : ℕ
     pub numbered : Numbered answer x y cost left i
 
-  module _ (answer : Jump) (x y cost left i : ℕ) (m : Moves ox oy) (n : Numbered answer x y cost left i) where
+  module _ (answer : Option Jump) (x y cost left i : ℕ) (m : Moves ox oy) (n : Numbered answer x y cost left i) where
     a : Ahead ox oy w h x y
     a = ahead ox oy w h x y m n.going.inside
 
@@ -122,8 +123,8 @@ module _ (blocked : List ℕ) (w h : ℕ) (stops : ℕ → ℕ → Bool) (ox oy 
     pub next_out : left ≡ 0 → free_at blocked w h (x + ox - 1) (y + oy - 1) ≡ false
     next_out e = free_out blocked w h (x + ox - 1) (y + oy - 1) (a.outside (omega (arith, n.ahead)))
 
-    pub next_left : 0 < left → left - 1 ≡ reach_of ox oy w h (x + ox - 1) (y + oy - 1)
-    next_left l = omega (arith, n.ahead, a.next (omega (arith, n.ahead)))
+    pub next_left : (rest : ℕ) → rest + 1 ≡ left → rest ≡ reach_of ox oy w h (x + ox - 1) (y + oy - 1)
+    next_left rest e = omega (arith, n.ahead, a.next (omega (arith, n.ahead)))
 
     pub next_is : 0 < left → number_of w (x + ox - 1) (y + oy - 1) + (w + 1) ≡ i + (oy * w + ox)
     next_is l = next_number ox oy w h x y n.going.inside (next_in l) ∙ ap (λ (k : ℕ). k + (oy * w + ox)) (sym n.here)
@@ -147,5 +148,6 @@ module _ (blocked : List ℕ) (w h : ℕ) (stops : ℕ → ℕ → Bool) (ox oy 
       pub next_free : get_or blocked (i + (oy * w + ox) - (w + 1)) 0 ≡ 0 → free_at blocked w h (x + ox - 1) (y + oy - 1) ≡ true
       next_free e = byte_is_lem ∙ eq-eqb _ 0 e
 
-      pub next_on : price ≤ 99 → free_at blocked w h (x + ox - 1) (y + oy - 1) ≡ true → stops (x + ox - 1) (y + oy - 1) ≡ false → Numbered answer (x + ox - 1) (y + oy - 1) (cost + price) (left - 1) (i + (oy * w + ox) - (w + 1))
-      next_on p e f = record { going = on blocked w h stops ox oy price answer x y cost m n.going e p f; here = next_here; ahead = next_left l }
+      pub next_on : price ≤ 99 → free_at blocked w h (x + ox - 1) (y + oy - 1) ≡ true → stops (x + ox - 1) (y + oy - 1) ≡ false → (rest : ℕ) → rest + 1 ≡ left
+          → Numbered answer (x + ox - 1) (y + oy - 1) (cost + price) rest (i + (oy * w + ox) - (w + 1))
+      next_on p e f rest r = record { going = on blocked w h stops ox oy price answer x y cost m n.going e p f; here = next_here; ahead = next_left rest r }

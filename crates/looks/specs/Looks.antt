@@ -1,11 +1,10 @@
 -- Straight jumps, and what a jump sees of them. Assumes nothing: these are definitions.
-use Rattle.std.specs.Prelude.{Bool, true, false, cond, List, ℕ, zero, suc, ◌+◌, ◌-◌, ◌%◌, min, eqb, ℤ}
+use Rattle.std.specs.Prelude.{Bool, true, false, cond, List, Option, Some, None, ℕ, zero, suc, ◌+◌, ◌-◌, ◌%◌, min, eqb, ℤ}
 use Rattle.directions.specs.Offsets.{off_x, off_y}
 use Rattle.goals.specs.declared.Plan.{Plan}
 use Rattle.goals.specs.Goals.{both, either, Aimed}
 use Rattle.stops.specs.declared.Jump.{Jump}
-use Rattle.stops.specs.declared.Jump.TheVariants.{At, Nothing}
-use Rattle.stops.specs.Stops.{Sized, Marked, free_at, stops_at}
+use Rattle.stops.specs.Stops.{Sized, Marked, landing, free_at, stops_at}
 
 -- what a jump asks: a byte for each cell that says blocked, one of forced directions, goals in range, and the number of the goal's cell
 pub record Floor (blocked forced : List ℕ) (goals : List ℤ) (p : Plan) : Type 0 where
@@ -25,27 +24,27 @@ reach_of ox oy w h x y =
     cond (eqb ox 1) (ahead_of oy h y) (cond (eqb oy 1) (ahead_of ox w x) (min (ahead_of ox w x) (ahead_of oy h y)))
 
 -- what one step finds: nothing where the cell is not free, the cell where it stops, or what lies beyond
-abbrev pub found : Bool → Bool → Jump → Jump → Jump
-found false b here beyond = Nothing
+abbrev pub found : Bool → Bool → Option Jump → Option Jump → Option Jump
+found false b here beyond = None
 found true true here beyond = here
 found true false here beyond = beyond
 
 -- at most n steps of an offset: the first free cell that stops it. The first step is at the given cost, each later one adds its price
-unfoldable pub run : (ℕ → ℕ → Bool) → (ℕ → ℕ → Bool) → ℕ → ℕ → ℕ → ℕ → ℕ → ℕ → ℕ → Jump
-run free stops ox oy price zero x y cost = Nothing
+unfoldable pub run : (ℕ → ℕ → Bool) → (ℕ → ℕ → Bool) → ℕ → ℕ → ℕ → ℕ → ℕ → ℕ → ℕ → Option Jump
+run free stops ox oy price zero x y cost = None
 run free stops ox oy price (suc n) x y cost =
     found (free (x + ox - 1) (y + oy - 1)) (stops (x + ox - 1) (y + oy - 1))
-    (At (record { x = x + ox - 1; y = y + oy - 1 }) cost)
+    (Some (landing (record { x = x + ox - 1; y = y + oy - 1 }) cost))
     (run free stops ox oy price n (x + ox - 1) (y + oy - 1) (cost + price))
 
 -- a jump in direction d over free cells
-abbrev pub run_on : List ℕ → Plan → (ℕ → ℕ → Bool) → ℕ → ℕ → ℕ → ℕ → ℕ → Jump
+abbrev pub run_on : List ℕ → Plan → (ℕ → ℕ → Bool) → ℕ → ℕ → ℕ → ℕ → ℕ → Option Jump
 run_on blocked p stops d price x y cost =
     run (free_at blocked p.w p.h) stops (off_x (d % 8)) (off_y (d % 8)) price (p.w + p.h) x y cost
 
-abbrev pub is_at : Jump → Bool
-is_at (At c k) = true
-is_at Nothing = false
+abbrev pub is_at : Option Jump → Bool
+is_at (Some j) = true
+is_at None = false
 
 -- a straight jump from a cell finds something
 unfoldable pub sees_on : List ℕ → List ℕ → List ℤ → Plan → ℕ → ℕ → ℕ → Bool

@@ -1,12 +1,14 @@
 // Straight jumps from a cell, and whether one finds something: what a jump looks for at each cell that it passes.
 #![tactic(auto)]
 
-ghost use Rattle.std.specs.Prelude.{◌≡◌, not, ◌+◌, ◌%◌, ◌<◌, ◌≤◌};
+ghost use Rattle.std.specs.Prelude.{◌≡◌, not, ◌+◌, ◌*◌, ◌%◌, ◌<◌, ◌≤◌};
 ghost use Rattle.goals.specs.Goals.{both, either};
-ghost use Rattle.stops.specs.Stops.{Within};
+ghost use Rattle.stops.specs.Stops.{Within, stops_in};
+ghost use Rattle.looks.specs.Props.{props};
 ghost use Rattle.looks.specs.Looks.{Floor, ahead_of, reach_of, sees_on, sees_either, turns_at};
 
 use goals::Plan;
+use stops::Cell;
 
 // How many cells of a side lie ahead of a place.
 fn ahead(o: usize, side: usize, at: usize) -> usize
@@ -20,98 +22,100 @@ fn ahead(o: usize, side: usize, at: usize) -> usize
 }
 
 // How many cells lie inside in the direction of an offset.
-pub fn reach(ox: usize, oy: usize, w: usize, h: usize, x: usize, y: usize) -> usize
-    requires { Within w h x y }
-    ensures { result ≡ reach_of ox oy w h x y }
+pub fn reach(ox: usize, oy: usize, w: usize, h: usize, c: Cell) -> usize
+    requires { Within w h c.x c.y }
+    ensures { result ≡ reach_of ox oy w h c.x c.y }
 {
     if ox == 1 {
-        return ahead(oy, h, y);
+        return ahead(oy, h, c.y);
     }
-    let across = ahead(ox, w, x);
+    let across = ahead(ox, w, c.x);
     if oy == 1 {
         return across;
     }
-    let down = ahead(oy, h, y);
-    if across < down {
-        return across;
-    }
-    down
+    let down = ahead(oy, h, c.y);
+    across.min(down)
 }
 
-// Whether a straight jump from an inside cell finds something. It steps by cell numbers: as many as lie ahead.
-fn sees_on(blocked: &[u8], forced: &[u8], goals: &[i32], p: Plan, d: u8, x: usize, y: usize) -> bool
-    requires { Floor blocked.now forced.now goals.now p × Within p.w p.h x y }
-    ensures { result ≡ sees_on blocked.now forced.now goals.now p d x y }
-{
-    let w = p.w;
-    let ox = directions::off_x(d);
-    let oy = directions::off_y(d);
-    let step = oy * w + ox;
-    let mut left = reach(ox, oy, w, p.h, x, y);
-    let mut i = stops::number(w, x, y);
-    while 0 < left {
-        i = i + step - (w + 1);
-        if blocked[i] != 0 {
-            return false;
-        }
-        if stops::stops_in(forced, goals, p, d, i) {
-            return true;
-        }
-        left -= 1;
-    }
-    false
+// What a jump looks at: a byte for each cell that says blocked, one of forced directions, the list of goals, and the plan.
+#[derive(Clone, Copy)]
+pub struct Scene<'a> {
+    pub blocked: &'a [u8],
+    pub forced: &'a [u8],
+    pub goals: &'a [i32],
+    pub plan: &'a Plan,
+    ghost floor: { Floor blocked.now forced.now goals.now plan.now } by { Prim.hlevel props },
 }
 
-// Whether a straight jump in one of two directions finds something.
-fn sees_either(
-    blocked: &[u8],
-    forced: &[u8],
-    goals: &[i32],
-    p: Plan,
-    d: u8,
-    e: u8,
-    x: usize,
-    y: usize,
-) -> bool
-    requires { Floor blocked.now forced.now goals.now p × Within p.w p.h x y }
-    ensures { result ≡ sees_either blocked.now forced.now goals.now p d e x y }
-{
-    if sees_on(blocked, forced, goals, p, d, x, y) {
-        return true;
+impl<'a> Scene<'a> {
+    // Whether a jump in direction d stops at the cell of a number: a goal or a forced cell.
+    pub fn stops_in(&self, d: u8, i: usize) -> bool
+        requires { i < self.now.plan.now.h * self.now.plan.now.w }
+        ensures { result ≡ stops_in self.now.forced.now self.now.goals.now self.now.plan.now d i }
+    {
+        stops::stops_in(self.forced, self.goals, self.plan, d, i)
     }
-    sees_on(blocked, forced, goals, p, e, x, y)
-}
 
-// Whether a straight jump to a side finds something: along x or y where d is diagonal, and, diagonals off, a perpendicular one.
-// One call serves each turn, an eighth to both sides and then a quarter: with more calls the plan is copied at every step.
-pub fn sees_aside(
-    blocked: &[u8],
-    forced: &[u8],
-    goals: &[i32],
-    p: Plan,
-    d: u8,
-    x: usize,
-    y: usize,
-) -> bool
-    requires { Floor blocked.now forced.now goals.now p × ((d < 8) × Within p.w p.h x y) }
-    ensures { result ≡ either (turns_at blocked.now forced.now goals.now p d x y) (both (not p.settings.diagonal) (sees_either blocked.now forced.now goals.now p ((d + 2) % 8) ((d + 6) % 8) x y)) }
-{
-    let last = 1 + (!p.settings.diagonal) as u8;
-    let mut turn = 1;
-    let mut right = directions::right_of(d);
-    let mut left = directions::left_of(d);
-    if d % 2 == 0 {
-        turn = 2;
-        right = directions::right_of(right);
-        left = directions::left_of(left);
-    }
-    while turn <= last {
-        if sees_either(blocked, forced, goals, p, right, left, x, y) {
-            return true;
+    // Whether a straight jump from an inside cell finds something. It steps by cell numbers: as many as lie ahead.
+    // What each step reads is copied once, so that it need not be read behind references.
+    fn sees_on(&self, d: u8, c: Cell) -> bool
+        requires { Within self.now.plan.now.w self.now.plan.now.h c.x c.y }
+        ensures { result ≡ sees_on self.now.blocked.now self.now.forced.now self.now.goals.now self.now.plan.now d c.x c.y }
+    {
+        let blocked = self.blocked;
+        let forced = self.forced;
+        let goals = self.goals;
+        let plan = *self.plan;
+        let w = plan.w;
+        let ox = directions::off_x(d);
+        let oy = directions::off_y(d);
+        let step = oy * w + ox;
+        let mut i = c.number(w);
+        for _ in 0..reach(ox, oy, w, plan.h, c) {
+            i = i + step - (w + 1);
+            if blocked[i] != 0 {
+                return false;
+            }
+            if stops::stops_in(forced, goals, &plan, d, i) {
+                return true;
+            }
         }
-        turn += 1;
-        right = directions::right_of(right);
-        left = directions::left_of(left);
+        false
     }
-    false
+
+    // Whether a straight jump in one of two directions finds something.
+    fn sees_either(&self, d: u8, e: u8, c: Cell) -> bool
+        requires { Within self.now.plan.now.w self.now.plan.now.h c.x c.y }
+        ensures { result ≡ sees_either self.now.blocked.now self.now.forced.now self.now.goals.now self.now.plan.now d e c.x c.y }
+    {
+        self.sees_on(d, c) || self.sees_on(e, c)
+    }
+
+    // Whether d is diagonal, and a straight jump along x or y finds something.
+    fn sees_beside(&self, d: u8, c: Cell) -> bool
+        requires { Within self.now.plan.now.w self.now.plan.now.h c.x c.y }
+        ensures { result ≡ turns_at self.now.blocked.now self.now.forced.now self.now.goals.now self.now.plan.now d c.x c.y }
+    {
+        let left = directions::left_of(d);
+        let right = directions::right_of(d);
+        d % 2 == 1 && self.sees_either(left, right, c)
+    }
+
+    // Whether diagonals are off, and a perpendicular straight jump finds something.
+    fn sees_across(&self, d: u8, c: Cell) -> bool
+        requires { Within self.now.plan.now.w self.now.plan.now.h c.x c.y }
+        ensures { result ≡ both (not self.now.plan.now.settings.diagonal) (sees_either self.now.blocked.now self.now.forced.now self.now.goals.now self.now.plan.now ((d + 2) % 8) ((d + 6) % 8) c.x c.y) }
+    {
+        let right = directions::right_of(directions::right_of(d));
+        let left = directions::left_of(directions::left_of(d));
+        !self.plan.settings.diagonal && self.sees_either(right, left, c)
+    }
+
+    // Whether a straight jump to a side finds something: along x or y where d is diagonal, and, diagonals off, a perpendicular one.
+    pub fn sees_aside(&self, d: u8, c: Cell) -> bool
+        requires { (d < 8) × Within self.now.plan.now.w self.now.plan.now.h c.x c.y }
+        ensures { result ≡ either (turns_at self.now.blocked.now self.now.forced.now self.now.goals.now self.now.plan.now d c.x c.y) (both (not self.now.plan.now.settings.diagonal) (sees_either self.now.blocked.now self.now.forced.now self.now.goals.now self.now.plan.now ((d + 2) % 8) ((d + 6) % 8) c.x c.y)) }
+    {
+        self.sees_beside(d, c) || self.sees_across(d, c)
+    }
 }

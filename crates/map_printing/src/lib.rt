@@ -1,49 +1,39 @@
 // The map text: its writer. Each function writes at a place of a lent room.
 #![tactic(auto)]
 
-ghost use Rattle.std.specs.Prelude.{◌≡◌, ◌+◌, ◌*◌, ◌≤◌, length, drop};
+ghost use Rattle.std.specs.Prelude.{◌≡◌, ◌+◌, ◌*◌, ◌≤◌, length, map};
 ghost use Rattle.std.proofs.lemmas.List.Edits.{sets};
 ghost use Rattle.maps.specs.Maps.{Fair, most_text};
-ghost use Rattle.map_printing.specs.Shown.{glyph_of, shown, row_text, rows_text, map_text};
+ghost use Rattle.map_printing.specs.Shown.{glyph_of, row_text, rows_text, map_text};
 
 use maps::Header;
-use printing::{flag, put_number_line, put_point_line, put_word};
+use printing::{put_number_line, put_point_line, put_word};
 
 // `.` where a table has 0, else `#`.
 fn glyph(b: u8) -> u8
     ensures { result ≡ glyph_of b }
 {
-    if b == 0 {
-        return 46;
-    }
-    35
+    if b == 0 { b'.' } else { b'#' }
 }
 
 // The cells of a row.
-fn put_cells(buf: &mut [u8], at: usize, blocked: &[u8], cell: usize, w: usize)
-    requires { (at + w ≤ length buf.old) × (cell + w ≤ length blocked.now) }
-    ensures { buf.new ≡ sets buf.old at (shown w (drop cell blocked.now)) }
+fn put_cells(buf: &mut [u8], at: usize, cells: &[u8])
+    requires { at + length cells.now ≤ length buf.old }
+    ensures { buf.new ≡ sets buf.old at (map glyph_of cells.now) }
 {
-    let mut k = at;
-    let mut i = cell;
-    let mut left = w;
-    while 0 < left {
-        let b = blocked[i];
-        buf[k] = glyph(b);
-        i += 1;
-        k += 1;
-        left -= 1;
+    for (i, b) in cells.iter().enumerate() {
+        buf[at + i] = glyph(*b);
     }
 }
 
 // A row's line.
-fn put_row(buf: &mut [u8], at: usize, blocked: &[u8], cell: usize, w: usize)
-    requires { (at + (w + 5) ≤ length buf.old) × (cell + w ≤ length blocked.now) }
-    ensures { buf.new ≡ sets buf.old at (row_text w (drop cell blocked.now)) }
+fn put_row(buf: &mut [u8], at: usize, cells: &[u8])
+    requires { at + (length cells.now + 5) ≤ length buf.old }
+    ensures { buf.new ≡ sets buf.old at (row_text (length cells.now) cells.now) }
 {
     let from = put_word(buf, at, b"row=");
-    put_cells(buf, from, blocked, cell, w);
-    buf[from + w] = 10;
+    put_cells(buf, from, cells);
+    buf[from + cells.len()] = b'\n';
 }
 
 // The rows' lines.
@@ -51,16 +41,13 @@ fn put_rows(buf: &mut [u8], at: usize, blocked: &[u8], w: usize, h: usize) -> us
     requires { (at + h * (w + 5) ≤ length buf.old) × (h * w ≤ length blocked.now) }
     ensures { (result ≡ at + h * (w + 5)) × (buf.new ≡ sets buf.old at (rows_text h w blocked.now)) }
 {
-    let mut k = at;
-    let mut cell = 0;
-    let mut left = h;
-    while 0 < left {
-        put_row(buf, k, blocked, cell, w);
-        k += w + 5;
-        cell += w;
-        left -= 1;
+    let mut end = at;
+    for i in 0..h {
+        let cell = i * w;
+        put_row(buf, end, &blocked[cell..cell + w]);
+        end += w + 5;
     }
-    k
+    end
 }
 
 // The text of a map whose sides and points are in range, written from the first place on; how long it is.
@@ -72,7 +59,7 @@ pub fn put_map(buf: &mut [u8], m: Header, blocked: &[u8]) -> usize
     let h = m.height;
     let a = put_number_line(buf, 0, b"width=", w as u32);
     let b = put_number_line(buf, a, b"height=", h as u32);
-    let c = put_number_line(buf, b, b"diagonal=", flag(m.diagonal));
+    let c = put_number_line(buf, b, b"diagonal=", u32::from(m.diagonal));
     let d = put_point_line(buf, c, b"start=", m.start);
     let e = put_point_line(buf, d, b"goal=", m.goal);
     put_rows(buf, e, blocked, w, h)

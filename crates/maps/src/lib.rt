@@ -1,13 +1,13 @@
 // The map text: the reader of its header and of the whole, over a lent table of cells.
 #![tactic(auto)]
 
-ghost use Rattle.std.specs.Prelude.{◌≡◌, ◌*◌, ◌≤◌, length, drop};
+ghost use Rattle.std.specs.Prelude.{◌≡◌, ◌*◌, ◌≤◌, length};
 ghost use Rattle.cells.specs.Cells.{most_side};
-ghost use Rattle.maps.specs.Maps.{size_line, flag_line, head_of, map_of, cells_into};
+ghost use Rattle.text.specs.Grammar.{Reads};
+ghost use Rattle.maps.specs.Maps.{size_line, flag_line, ReadsHead, head_of, map_of, cells_into};
 
 use points::Point;
-use rows::Rows;
-use text::{Num, Pair};
+use rows::BadLine;
 
 // The most bytes of a map text.
 pub const TEXT: usize = 8192;
@@ -22,96 +22,57 @@ pub struct Header {
     pub goal: Point,
 }
 
-// A header that was read, with the count of its bytes, or the first bad line.
-#[derive(Clone, Copy)]
-pub enum Head {
-    Of(Header, usize),
-    Bad(usize),
-}
-
-// A map that was read, or the first bad line.
-#[derive(Clone, Copy)]
-pub enum Reading {
-    Map(Header),
-    Bad(usize),
-}
-
 // A line with a side.
-fn size_line(s: &[u8], at: usize, word: &[u8]) -> Num
-    ensures { result ≡ size_line word.now (drop at s.now) }
+fn size_line<'a>(s: &'a [u8], word: &[u8]) -> Option<(usize, &'a [u8])>
+    ensures { Reads s.now (size_line word.now s.now) result }
 {
-    let Num::Whole(v, n) = lines::number_line(s, at, word, 1024) else {
-        return Num::Wrong;
-    };
-    if !cells::sized(v as usize, 1) {
-        return Num::Wrong;
+    let (v, rest) = lines::number_line(s, word, 1024)?;
+    let side = v as usize;
+    if !cells::sized(side, 1) {
+        return None;
     }
-    Num::Whole(v, n)
+    Some((side, rest))
 }
 
 // A line with 0 or 1.
-fn flag_line(s: &[u8], at: usize, word: &[u8]) -> Num
-    ensures { result ≡ flag_line word.now (drop at s.now) }
+fn flag_line<'a>(s: &'a [u8], word: &[u8]) -> Option<(u32, &'a [u8])>
+    ensures { Reads s.now (flag_line word.now s.now) result }
 {
-    let Num::Whole(v, n) = lines::number_line(s, at, word, 9) else {
-        return Num::Wrong;
-    };
+    let (v, rest) = lines::number_line(s, word, 9)?;
     if 1 < v {
-        return Num::Wrong;
+        return None;
     }
-    Num::Whole(v, n)
+    Some((v, rest))
 }
 
 // The lines before the rows.
-fn read_head(s: &[u8]) -> Head
-    ensures { result ≡ head_of s.now }
+fn read_head(s: &[u8]) -> Result<(Header, &[u8]), BadLine>
+    ensures { ReadsHead s.now (head_of s.now) result }
 {
-    let Num::Whole(w, a) = size_line(s, 0, b"width=") else {
-        return Head::Bad(1);
-    };
-    let Num::Whole(h, b) = size_line(s, a, b"height=") else {
-        return Head::Bad(2);
-    };
-    let k = a + b;
-    let Num::Whole(d, c) = flag_line(s, k, b"diagonal=") else {
-        return Head::Bad(3);
-    };
-    let l = k + c;
-    let Pair::Both(start, e) = lines::point_line(s, l, b"start=") else {
-        return Head::Bad(4);
-    };
-    let m = l + e;
-    let Pair::Both(goal, f) = lines::point_line(s, m, b"goal=") else {
-        return Head::Bad(5);
-    };
+    let (width, s) = size_line(s, b"width=").ok_or(BadLine { line: 1 })?;
+    let (height, s) = size_line(s, b"height=").ok_or(BadLine { line: 2 })?;
+    let (flag, s) = flag_line(s, b"diagonal=").ok_or(BadLine { line: 3 })?;
+    let (start, s) = lines::point_line(s, b"start=").ok_or(BadLine { line: 4 })?;
+    let (goal, s) = lines::point_line(s, b"goal=").ok_or(BadLine { line: 5 })?;
     let header = Header {
-        width: w as usize,
-        height: h as usize,
-        diagonal: d == 1,
+        width,
+        height,
+        diagonal: flag == 1,
         start,
         goal,
     };
-    Head::Of(header, m + f)
+    Ok((header, s))
 }
 
 // The map of a text, with its cells in a lent table, or the first bad or missing line, 0 if too long.
-pub fn read(s: &[u8], blocked: &mut [u8]) -> Reading
+pub fn read(s: &[u8], blocked: &mut [u8]) -> Result<Header, BadLine>
     requires { most_side * most_side ≤ length blocked.old }
     ensures { (result ≡ map_of s.now) × (blocked.new ≡ cells_into s.now blocked.old) }
 {
     if TEXT < s.len() {
-        return Reading::Bad(0);
+        return Err(BadLine { line: 0 });
     }
-    let head = read_head(s);
-    match head {
-        Head::Bad(n) => Reading::Bad(n),
-        Head::Of(m, used) => {
-            let w = m.width;
-            let h = m.height;
-            match rows::read_rows(s, used, w, h, blocked) {
-                Rows::Bad(n) => Reading::Bad(n),
-                Rows::Good => Reading::Map(m),
-            }
-        }
-    }
+    let (m, rest) = read_head(s)?;
+    rows::read_rows(rest, m.width, m.height, blocked)?;
+    Ok(m)
 }

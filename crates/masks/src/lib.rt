@@ -8,6 +8,7 @@ mod forced;
 mod table;
 
 // Whether bit d of a mask is set, d modulo 8.
+#[tactic(auto, unfolding(crate::specs::Masks::has_bit))]
 pub fn bit(m: u8, d: u8) -> bool
     ensures { result ≡ has_bit m (d % 8) }
 {
@@ -25,8 +26,7 @@ pub fn forced_mask(m: u8) -> u8
 fn straight(d: u8, m: u8) -> u8
     ensures { result ≡ straight_of (d % 8) m }
 {
-    let n = d % 8;
-    match n {
+    match d % 8 {
         0 => m & 69,
         2 => m & 21,
         4 => m & 84,
@@ -40,7 +40,8 @@ pub fn pruned_mask(diagonal: bool, d: u8, m: u8) -> u8
     ensures { result ≡ pruned_in diagonal (d % 8) m }
 {
     if diagonal {
-        return table::pruned(d, m);
+        table::pruned(d, m)
+    } else {
+        straight(d, m)
     }
-    straight(d, m)
 }

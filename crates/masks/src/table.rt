@@ -86,9 +86,8 @@ const ROW_7: [u8; 256] = *b"\
 pub fn pruned(d: u8, m: u8) -> u8
     ensures { result ≡ pruned_of (d % 8) m }
 {
-    let n = d % 8;
     let i = m as usize;
-    match n {
+    match d % 8 {
         0 => ROW_0[i],
         1 => ROW_1[i],
         2 => ROW_2[i],

@@ -6,7 +6,7 @@ ghost use Rattle.nodes.specs.Nodes.{Able, nodes, note, note_of};
 
 // What recording a successor did: whether it was taken, its insertion number, and how many nodes there are now.
 #[repr(C)]
-#[derive(Clone, Copy)]
+#[derive(Clone, Copy, PartialEq, Eq)]
 pub struct Noted {
     pub kept: bool,
     pub index: usize,

@@ -23,11 +23,11 @@ use Rattle.nodes.proofs.History.{hist_bound, hist_note, past_note, cost_fits, ba
 use Rattle.nodes.proofs.Laws.{took, Took, later_refl}
 use Rattle.keys.specs.Keys.{key_of, cost_of}
 use Rattle.keys.proofs.Order.{key_cost, top_first}
-use Rattle.offers.specs.declared.Mark.{Mark}
+use Rattle.offers.specs.declared.Work.{Work}
 use Rattle.points.specs.declared.Refusal.{Refusal}
 use Rattle.points.specs.declared.Refusal.TheVariants.{Fringe}
 use lib.IntN.{ℤ}
-use Rattle.offers.specs.Search.{Ended, State, state, view, Out, ok, no, onward, offer_of, each, popped, visit_of, hit, on, to_turn, turn_of, Fit, Lent, Queued, Rising, Good, Next, Keeps, Expansion}
+use Rattle.offers.specs.Search.{Ended, State, state, view, Out, ok, no, onward, offer_of, each, popped, visit_of, hit, on, to_turn, turn_of, Fit, Lent, Stays, Queued, Rising, Good, Next, Keeps, Expansion}
 use Rattle.offers.proofs.Laws.{count_le}
 
 -- two answers that are states are the same state
@@ -222,21 +222,17 @@ module _ (n limit edge area : ℕ) (exp : Expansion) (goal : ℕ → Bool) (keep
       }
 
 -- the slices after a step: the sizes are the same, and the state is fit
-pub lent_next : {goals : List ℤ} {p : Plan} {number place parent cost keys idx : List ℕ} {m : Mark} → Lent goals p number place parent cost keys idx m
-    → (number' place' parent' cost' keys' idx' : List ℕ) (m' : Mark)
-    → length number' ≡ length number → length place' ≡ length place → length parent' ≡ length parent → length cost' ≡ length cost → length keys' ≡ length keys → length idx' ≡ length idx
-    → Fit p.settings.fringe (view number' place' parent' cost' keys' idx' m')
-    → Lent goals p number' place' parent' cost' keys' idx' m'
-lent_next a number' place' parent' cost' keys' idx' m' q1 q2 q3 q4 q5 q6 f =
+pub lent_next : {goals : List ℤ} {p : Plan} {r : Work} → Lent goals p r → (s : Work) → Stays r s → Fit p.settings.fringe (view s) → Lent goals p s
+lent_next a s q f =
     record {
       aimed = a.aimed;
       sides = a.sides;
-      floor = q1 ∙ a.floor;
-      place_long = omega (arith, a.place_long);
-      parent_long = omega (arith, a.parent_long);
-      cost_long = omega (arith, a.cost_long);
-      keys_long = omega (arith, a.keys_long);
-      idx_long = omega (arith, a.idx_long);
-      counted = omega (arith, f.sound.counts, count_le (nodes number' place' parent' cost' m'.count) f.sound);
+      floor = q.number.1 ∙ a.floor;
+      place_long = omega (arith, a.place_long, q.number.1, q.place.1);
+      parent_long = omega (arith, a.parent_long, q.number.1, q.parent.1);
+      cost_long = omega (arith, a.cost_long, q.number.1, q.cost.1);
+      keys_long = omega (arith, a.keys_long, q.keys.1);
+      idx_long = omega (arith, a.idx_long, q.idx.1);
+      counted = omega (arith, f.sound.counts, count_le ((view s).nodes) f.sound);
       fit = f;
     }

@@ -15,7 +15,7 @@ use Rattle.fringe.specs.Fringe.{push}
 use Rattle.nodes.specs.Nodes.{Nodes, Note, note_of, Sound, Able, filled}
 use Rattle.nodes.proofs.Laws.{took, filled_le, filled_lt}
 use Rattle.keys.specs.Keys.{key_of}
-use Rattle.offers.specs.declared.Mark.{Mark}
+use Rattle.offers.specs.declared.Work.{Work}
 use Rattle.points.specs.declared.Refusal.TheVariants.{Fringe}
 use Rattle.points.specs.Plane.{legal}
 use Rattle.goals.specs.Goals.{most_side, point_of, Numbered, Aimed}
@@ -57,22 +57,22 @@ pub point_cell : (p : Plan) (c : ℕ) → (c ≡ area_of p → ⊥) → point_of
 unfolding place_point
 point_cell p c e = rw (ne_eqb c (area_of p) e)
 
--- ---- the slices
+-- ---- the room
 
-module _ {goals : List ℤ} {p : Plan} {number place parent cost keys idx : List ℕ} {m : Mark} (a : Lent goals p number place parent cost keys idx m) where
-  pub places_low : length number ≤ most_places
+module _ {goals : List ℤ} {p : Plan} {r : Work} (a : Lent goals p r) where
+  pub places_low : length r.number.now ≤ most_places
   places_low = omega (arith, a.floor, area_low p a.sides)
 
-  pub cell_in : (cell : ℕ) → cell < area_of p → cell < length number
+  pub cell_in : (cell : ℕ) → cell < area_of p → cell < length r.number.now
   cell_in cell h = omega (arith, a.floor)
 
-  pub able : (cell from : ℕ) → cell < area_of p → from < length number → Able number place parent cost m.count cell from
+  pub able : (cell from : ℕ) → cell < area_of p → from < length r.number.now → Able r.number.now r.place.now r.parent.now r.cost.now r.count cell from
   able cell from hc hf =
       let s = a.fit.sound in
       record {
         cell_in = cell_in cell hc;
         known = omega (arith, s.numbered cell, s.counts);
-        spare = λ z. let l : filled number < length number = filled_lt number cell (cell_in cell hc) z in omega (arith, l, s.filling, s.counts);
+        spare = λ z. let l : filled r.number.now < length r.number.now = filled_lt r.number.now cell (cell_in cell hc) z in omega (arith, l, s.filling, s.counts);
         place_long = a.place_long;
         parent_long = a.parent_long;
         cost_long = a.cost_long;

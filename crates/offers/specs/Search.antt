@@ -1,6 +1,7 @@
 -- The state of a search, what offering a successor does to it, and the search's loop over any expansion.
 -- Assumes nothing.
-use Rattle.std.specs.Prelude.{◌≡◌, Bool, cond, List, [], ℕ, zero, suc, ◌+◌, ◌-◌, ◌*◌, ◌<◌, ◌≤◌, ℤ, length, get_or, take, replicate, eqb, ltb, leb}
+use Rattle.std.specs.Prelude.{◌≡◌, Bool, cond, List, [], Result, Ok, Err, ℕ, zero, suc, ◌+◌, ◌-◌, ◌*◌, ◌<◌, ◌≤◌, ℤ, length, get_or, take, replicate, eqb, ltb, leb}
+use Rattle.std.specs.Borrow.{MutBor}
 use Rattle.points.specs.declared.Point.{Point}
 use Rattle.points.specs.declared.Refusal.{Refusal}
 use Rattle.points.specs.declared.Refusal.TheVariants.{Exhausted, Fringe, Pops}
@@ -14,10 +15,7 @@ use Rattle.fringe.specs.Order.{Each, Ordered}
 use Rattle.keys.specs.Order.{Packed}
 use Rattle.nodes.specs.Nodes.{Nodes, Note, nodes, note_of, Sound, Later}
 use Rattle.nodes.specs.Bound.{times, Hist, places_of}
-use Rattle.offers.specs.declared.Mark.{Mark}
-use Rattle.offers.specs.declared.Step.{Step}
-use Rattle.offers.specs.declared.Fate.{Fate}
-use Rattle.offers.specs.declared.Fate.TheVariants.{Done, Refused}
+use Rattle.offers.specs.declared.Work.{Work}
 
 -- ---- places: the cells, and one more for an outside start
 
@@ -53,23 +51,20 @@ pub record State : Type 0 where
 abbrev pub state : Nodes → List Entry → ℕ → State
 state s l n = record { nodes = s; heap = l; size = n }
 
--- the state that lent slices hold
-abbrev pub view : List ℕ → List ℕ → List ℕ → List ℕ → List ℕ → List ℕ → Mark → State
-view number place parent cost keys idx m =
-    state (nodes number place parent cost m.count) (take m.heap (entries keys idx)) m.heap
+-- the state that a room holds
+abbrev pub view : Work → State
+view r =
+    state (nodes r.number.now r.place.now r.parent.now r.cost.now r.count) (take r.heap (entries r.keys.now r.idx.now)) r.heap
 
 -- a state, or a refusal
 pub data Out : Type 0 where
   ok : State → Out
   no : Refusal → Out
 
--- what a step's answer and the slices come to
-abbrev pub out_in : Fate → Mark → List ℕ → List ℕ → List ℕ → List ℕ → List ℕ → List ℕ → Out
-out_in Done m number place parent cost keys idx = ok (view number place parent cost keys idx m)
-out_in (Refused w) m number place parent cost keys idx = no w
-
-abbrev pub out_of : Step → List ℕ → List ℕ → List ℕ → List ℕ → List ℕ → List ℕ → Out
-out_of r number place parent cost keys idx = out_in r.fate r.mark number place parent cost keys idx
+-- what a step's answer and the room come to
+abbrev pub out_of : Result Unit Refusal → Work → Out
+out_of (Ok _) r = ok (view r)
+out_of (Err w) r = no w
 
 -- what comes next, unless there was a refusal
 abbrev pub onward : Out → (State → Out) → Out
@@ -161,18 +156,31 @@ pub record Fit (limit : ℕ) (s : State) : Type 0 where
   pub sized : length s.heap ≡ s.size
   pub room : s.size ≤ limit
 
--- what the code asks of the slices
-pub record Lent (goals : List ℤ) (p : Plan) (number place parent cost keys idx : List ℕ) (m : Mark) : Type 0 where
+-- what the code asks of the room
+pub record Lent (goals : List ℤ) (p : Plan) (r : Work) : Type 0 where
   pub aimed : Aimed goals p
   pub sides : Sides p
-  pub floor : length number ≡ area_of p + 1
-  pub place_long : length number ≤ length place
-  pub parent_long : length number ≤ length parent
-  pub cost_long : length number ≤ length cost
-  pub keys_long : p.settings.fringe ≤ length keys
-  pub idx_long : p.settings.fringe ≤ length idx
-  pub counted : m.count ≤ length number
-  pub fit : Fit p.settings.fringe (view number place parent cost keys idx m)
+  pub floor : length r.number.now ≡ area_of p + 1
+  pub place_long : length r.number.now ≤ length r.place.now
+  pub parent_long : length r.number.now ≤ length r.parent.now
+  pub cost_long : length r.number.now ≤ length r.cost.now
+  pub keys_long : p.settings.fringe ≤ length r.keys.now
+  pub idx_long : p.settings.fringe ≤ length r.idx.now
+  pub counted : r.count ≤ length r.number.now
+  pub fit : Fit p.settings.fringe (view r)
+
+-- the same slice, with the same length
+abbrev pub Same : MutBor (List ℕ) → MutBor (List ℕ) → Type 0
+Same a b = (b.ghost_name ≡ a.ghost_name) × (length b.now ≡ length a.now)
+
+-- a room keeps the slices that it was lent
+pub record Stays (r s : Work) : Type 0 where
+  pub number : Same r.number s.number
+  pub place : Same r.place s.place
+  pub parent : Same r.parent s.parent
+  pub cost : Same r.cost s.cost
+  pub keys : Same r.keys s.keys
+  pub idx : Same r.idx s.idx
 
 -- an entry of the fringe: of a node, at a cost that is bounded and at least the recorded one
 pub record Queued (bound : ℕ) (s : Nodes) (e : Entry) : Type 0 where

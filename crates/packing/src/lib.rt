@@ -6,11 +6,12 @@ ghost use Rattle.std.specs.Prelude.{◌≡◌};
 ghost use Rattle.headings.specs.Headings.{direction_of};
 ghost use Rattle.costs.specs.Cost.{distance_of};
 ghost use Rattle.costs.specs.Scale.{scaled_of};
+ghost use Rattle.points.specs.Refusals.{told_of};
 ghost use Rattle.packing.specs.Packing.{flag_of, point_of, refused_with, heading_packed, measure_packed, refused_as, mark_of, settings_of};
 
 use bends::Heading;
-use costs::{Measure, Settings};
-use points::{Point, Refusal, Told};
+use costs::Settings;
+use points::{Point, Refusal};
 
 // A flag is 0 or not.
 pub fn flag(b: u8) -> bool
@@ -19,27 +20,28 @@ pub fn flag(b: u8) -> bool
     b != 0
 }
 
+// What a refusal's number is multiplied by.
+const REFUSED: u64 = 4294967296;
+
 // A refusal of a call on two points, of which a is the first: POINT says which of them it is about.
-fn refused(t: Told, a: Point) -> u64
-    ensures { result ≡ refused_with t a }
+fn refused(r: Refusal, a: Point) -> u64
+    ensures { result ≡ refused_with (told_of r) a }
 {
-    let number = t.number as u64;
-    if number != 14 {
-        return 4294967296 * number;
-    }
-    if a.legal() {
-        return 4294967296 * (number + 512);
-    }
-    4294967296 * (number + 256)
+    let about = match r {
+        Refusal::BadPoint(_) if a.legal() => 512,
+        Refusal::BadPoint(_) => 256,
+        _ => 0,
+    };
+    REFUSED * (u64::from(r.number()) + about)
 }
 
 // A cost, or a refusal of a call on two points.
-fn measured(m: Measure, a: Point) -> u64
+fn measured(m: Result<u32, Refusal>, a: Point) -> u64
     ensures { result ≡ measure_packed m a }
 {
     match m {
-        Measure::Cost(c) => c as u64,
-        Measure::Refused(r) => refused(r.told(), a),
+        Ok(cost) => u64::from(cost),
+        Err(r) => refused(r, a),
     }
 }
 
@@ -54,11 +56,10 @@ pub fn point(x: i32, y: i32) -> Point
 pub fn direction(a: Point, b: Point) -> u64
     ensures { result ≡ heading_packed (direction_of a b) a }
 {
-    let h = headings::direction_to(a, b);
-    match h {
-        Heading::Straight(d, n) => 16 * n as u64 + d.number as u64,
-        Heading::Bent(d, n) => 16 * n as u64 + 8 + d.number as u64,
-        Heading::Refused(r) => refused(r.told(), a),
+    match headings::direction_to(a, b) {
+        Ok(Heading::Straight(d, n)) => 16 * n as u64 + d.number as u64,
+        Ok(Heading::Bent(d, n)) => 16 * n as u64 + 8 + d.number as u64,
+        Err(r) => refused(r, a),
     }
 }
 
@@ -80,19 +81,14 @@ pub fn scaled_distance(diagonal: bool, factor: f32, a: Point, b: Point) -> u64
 pub fn refused_as(r: Refusal) -> u64
     ensures { result ≡ refused_as r }
 {
-    let t = r.told();
-    let number = t.number as u64;
-    4294967296 * number
+    REFUSED * u64::from(r.number())
 }
 
 // Yes and no: 1 and 0.
 pub fn mark(b: bool) -> u64
     ensures { result ≡ mark_of b }
 {
-    if b {
-        return 1;
-    }
-    0
+    u64::from(b)
 }
 
 // The settings of a search.

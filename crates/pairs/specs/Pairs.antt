@@ -1,9 +1,9 @@
 -- Lists of points: a list of numbers, x and y in turn. Assumes nothing: these are definitions.
-use Rattle.std.specs.Prelude.{◌≡◌, cond, List, [], ◌∷◌, ℕ, ◌+◌, ◌%◌, ℤ, pos, get_or}
+use Rattle.std.specs.Prelude.{◌≡◌, cond, eqb, Option, Some, None, Result, Err, length, List, [], ◌∷◌, ℕ, ◌+◌, ◌%◌, ℤ, pos, get_or}
 use Rattle.points.specs.Plane.{legal}
 use Rattle.points.specs.declared.Point.{Point}
-use Rattle.pairs.specs.declared.Bad.{Bad}
-use Rattle.pairs.specs.declared.Bad.TheVariants.{At, Nowhere}
+use Rattle.points.specs.declared.Refusal.{Refusal}
+use Rattle.points.specs.declared.Refusal.TheVariants.{List as ListBroken, BadPoint}
 
 abbrev pub point : ℤ → ℤ → Point
 point x y = record { x = x; y = y }
@@ -17,7 +17,16 @@ abbrev pub Even : ℕ → Type 0
 Even n = n % 2 ≡ 0
 
 -- the first point out of coordinate range
-unfoldable pub first_bad : List ℤ → Bad
-first_bad [] = Nowhere
-first_bad (x ∷ []) = Nowhere
-first_bad (x ∷ y ∷ l) = cond (legal (point x y)) (first_bad l) (At (point x y))
+unfoldable pub first_bad : List ℤ → Option Point
+first_bad [] = None
+first_bad (x ∷ []) = None
+first_bad (x ∷ y ∷ l) = cond (legal (point x y)) (first_bad l) (Some (point x y))
+
+-- POINT, where there is a point to blame; else the answer r
+abbrev pub blamed_of : {X : Type 0} → Option Point → Result X Refusal → Result X Refusal
+blamed_of (Some p) r = Err (BadPoint p)
+blamed_of None r = r
+
+-- LIST, where there is no number or an odd count of numbers; POINT with the first point out of range; else the answer r
+abbrev pub taken_of : {X : Type 0} → List ℤ → Result X Refusal → Result X Refusal
+taken_of l r = cond (eqb (length l) 0) (Err ListBroken) (cond (eqb (length l % 2) 1) (Err ListBroken) (blamed_of (first_bad l) r))

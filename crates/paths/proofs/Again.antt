@@ -4,26 +4,25 @@ use mathlib.Core.Bool.{Bool, true, false, cond}
 use mathlib.Core.List.{List, [], ◌∷◌, ◌++◌}
 use Prim.Native.Nat.{ℕ, zero, suc, ◌+◌, ◌*◌, ◌/◌, ◌%◌, ◌≤◌, min}
 use native.Mathlib.Omega.{arith}
-use borrow.Author.Tests.{leb-true, eqb-false}
-use lib.Dec.{T, leb, eqb}
+use borrow.Author.Tests.{leb-true}
+use lib.Dec.{T, leb}
 use lib.IntN.{ℤ, pos, negsuc, nat_abs, ◌+ℤ◌, ◌-ℤ◌}
 use lib.ListN.{length, take, drop, length-append}
 use lib.Seq.{sets, sets-eq, take_at}
 use denote.Floats.{is_true}
+use Rattle.std.specs.Prelude.{Some, None, Result, Ok, Err}
+use Rattle.std.specs.Option.{ok_or}
 use Rattle.points.specs.Compass.{sign_of}
 use Rattle.points.specs.Plane.{legal}
 use Rattle.points.specs.declared.Point.{Point}
 use Rattle.points.specs.declared.Refusal.{Refusal}
-use Rattle.points.specs.declared.Refusal.TheVariants.{List as ListBroken, Room, BadPoint}
+use Rattle.points.specs.declared.Refusal.TheVariants.{Room}
 use Rattle.points.proofs.Halves.{sub_law, add_is, abs_is, apart}
 use Rattle.pairs.specs.Pairs.{Even, point, first_bad}
-use Rattle.pairs.specs.declared.Bad.{Bad}
-use Rattle.pairs.specs.declared.Bad.TheVariants.{At, Nowhere}
 use Rattle.pairs.proofs.Laws.{none_bad}
+use Rattle.pairs.proofs.Taken.{Taken, taken_ok}
 use Rattle.headings.specs.Headings.{span_of}
-use Rattle.paths.specs.Walks.{step_by, next_to, walk_of, path_from, path_of, counted_of, room_of, point_of, path_answer, path_kept}
-use Rattle.paths.specs.declared.Written.TheVariants.{Points, Refused}
-use Rattle.paths.specs.declared.Counted.TheVariants.{Few, Over}
+use Rattle.paths.specs.Walks.{step_by, next_to, walk_of, path_from, path_of, counted_of, path_answer, path_kept}
 use Rattle.paths.proofs.Laws.{next_legal, walk_length}
 use Rattle.paths.proofs.Arrives.{after, closes, arrives}
 
@@ -70,9 +69,9 @@ unfolding walk_of first_bad
 walk_legal zero p q m s t = refl
 walk_legal (suc n) p q m s t =
     let r = next_to p q in
-    ap (λ (b : Bool). cond b (first_bad (walk_of n r q ++ m)) (At r)) (is_true (legal r) (next_legal p q s t)) ∙ walk_legal n r q m (next_legal p q s t) t
+    ap (λ (b : Bool). cond b (first_bad (walk_of n r q ++ m)) (Some r)) (is_true (legal r) (next_legal p q s t)) ∙ walk_legal n r q m (next_legal p q s t) t
 
-from_legal : (p : Point) (l : List ℤ) → T (legal p) → first_bad l ≡ Nowhere → first_bad (path_from p l) ≡ Nowhere
+from_legal : (p : Point) (l : List ℤ) → T (legal p) → first_bad l ≡ None → first_bad (path_from p l) ≡ None
 unfolding path_from first_bad
 from_legal p [] t e = refl
 from_legal p (x ∷ []) t e = refl
@@ -81,14 +80,14 @@ from_legal p (x ∷ y ∷ l) t e =
     let k = none_bad (x ∷ y ∷ l) 0 (omega arith) e in
     walk_legal (span_of p q) p q (path_from q l) t k.0 ∙ from_legal q l k.0 k.1
 
-path_legal : (l : List ℤ) → first_bad l ≡ Nowhere → first_bad (path_of l) ≡ Nowhere
+path_legal : (l : List ℤ) → first_bad l ≡ None → first_bad (path_of l) ≡ None
 unfolding path_of first_bad
 path_legal [] e = refl
 path_legal (x ∷ []) e = refl
 path_legal (x ∷ y ∷ l) e =
     let p = point x y in
     let k = none_bad (x ∷ y ∷ l) 0 (omega arith) e in
-    ap (λ (b : Bool). cond b (first_bad (path_from p l)) (At p)) (is_true (legal p) k.0) ∙ from_legal p l k.0 k.1
+    ap (λ (b : Bool). cond b (first_bad (path_from p l)) (Some p)) (is_true (legal p) k.0) ∙ from_legal p l k.0 k.1
 
 -- ---- a path has both numbers of each point
 from_even : (p : Point) (l : List ℤ) → Even (length (path_from p l))
@@ -106,12 +105,7 @@ path_even [] = refl
 path_even (x ∷ []) = refl
 path_even (x ∷ y ∷ l) = omega (arith, from_even (point x y) l)
 
--- ---- a list that is taken: neither empty nor odd, with no point out of range
-pub record Taken (l : List ℤ) : Type 0 where
-  pub some : length l ≡ 0 → ⊥
-  pub even : length l % 2 ≡ 1 → ⊥
-  pub none : first_bad l ≡ Nowhere
-
+-- ---- the path of a list that is taken
 path_some : (l : List ℤ) → (length l ≡ 0 → ⊥) → (length l % 2 ≡ 1 → ⊥) → length (path_of l) ≡ 0 → ⊥
 unfolding path_of
 path_some [] s o e = s refl
@@ -123,14 +117,16 @@ pub path_taken : (l : List ℤ) → Taken l → Taken (path_of l)
 path_taken l k = record { some = path_some l k.some k.even; even = λ e. omega (arith, path_even l); none = path_legal l k.none }
 
 -- a list whose path was written is taken, and the path is what the room begins with
-pub walked : (l out : List ℤ) (n : ℕ) → path_answer l (length out) ≡ Points n → Taken l × (take (2 * n) (path_kept (Points n) l out) ≡ path_of l)
+pub walked : (l out : List ℤ) (n : ℕ) → path_answer l (length out) ≡ Ok n → Taken l × (take (2 * n) (path_kept (Ok n) l out) ≡ path_of l)
 unfolding path_answer counted_of
-walked l out n = by (eqb (length l) 0) (eqb (length l % 2) 1) (first_bad l) (leb (length (path_of l)) (2 * (length out / 2))) (eqb-false (length l) 0) (eqb-false (length l % 2) 1) (λ e. e) (leb-true (length (path_of l)) (2 * (length out / 2)))
+walked l out n e =
+    let k = taken_ok l (ok_or (counted_of l (length out / 2)) Room) n e in
+    (k.0, by (leb (length (path_of l)) (2 * (length out / 2))) (leb-true (length (path_of l)) (2 * (length out / 2))) k.1)
   where
-    never : (r : Refusal) → Refused r ≡ Points n → ⊥
-    never r e = let z : ◌≡◌ {A = ℕ} 0 1 = cc in omega arith
+    never : ◌≡◌ {A = Result ℕ Refusal} (Err Room) (Ok n) → ⊥
+    never e = let z : ◌≡◌ {A = ℕ} 0 1 = cc in omega arith
 
-    half : (k : ℕ) → Points k ≡ Points n → k ≡ n
+    half : (k : ℕ) → ◌≡◌ {A = Result ℕ Refusal} (Ok k) (Ok n) → k ≡ n
     half k e = cc
 
     kept : length (path_of l) / 2 ≡ n → length (path_of l) ≤ 2 * (length out / 2) → take (2 * n) (sets out 0 (path_of l)) ≡ path_of l
@@ -138,10 +134,6 @@ walked l out n = by (eqb (length l) 0) (eqb (length l % 2) 1) (first_bad l) (leb
         ap (take (2 * n)) (sets-eq (path_of l) out 0 (omega arith))
         ∙ take_at (path_of l) (drop (0 + length (path_of l)) out) (2 * n) (omega (arith, path_even l))
 
-    by : (a b : Bool) (f : Bad) (c : Bool) → (a ≡ false → length l ≡ 0 → ⊥) → (b ≡ false → length l % 2 ≡ 1 → ⊥) → (f ≡ Nowhere → first_bad l ≡ Nowhere) → (c ≡ true → length (path_of l) ≤ 2 * (length out / 2))
-        → cond a (Refused ListBroken) (cond b (Refused ListBroken) (point_of f (room_of (cond c (Few (length (path_of l) / 2)) Over)))) ≡ Points n → Taken l × (take (2 * n) (sets out 0 (path_of l)) ≡ path_of l)
-    by false false Nowhere true s o f r e = (record { some = s refl; even = o refl; none = f refl }, kept (half (length (path_of l) / 2) e) (r refl))
-    by false false Nowhere false s o f r e = absurd (never Room e)
-    by false false (At p) c s o f r e = absurd (never (BadPoint p) e)
-    by false true g c s o f r e = absurd (never ListBroken e)
-    by true b g c s o f r e = absurd (never ListBroken e)
+    by : (c : Bool) → (c ≡ true → length (path_of l) ≤ 2 * (length out / 2)) → ok_or (cond c (Some (length (path_of l) / 2)) None) Room ≡ Ok n → take (2 * n) (sets out 0 (path_of l)) ≡ path_of l
+    by true r e = kept (half (length (path_of l) / 2) e) (r refl)
+    by false r e = absurd (never e)

@@ -1,10 +1,10 @@
 -- Laws of the walk: a step stays in range, a turn of each loop, and the lengths. Assumes nothing.
 use mathlib.Core.Path.{◌≡◌, refl, sym, ap, ◌∙◌, subst}
-use mathlib.Core.Bool.{Bool, true, false, cond}
+use mathlib.Core.Bool.{true}
 use mathlib.Core.List.{List, [], ◌∷◌, ◌++◌}
-use Prim.Native.Nat.{ℕ, zero, suc, ◌+◌, ◌-◌, ◌*◌, ◌/◌, ◌%◌, ◌≤◌, ◌<◌}
+use Prim.Native.Nat.{ℕ, zero, suc, ◌+◌, ◌-◌, ◌*◌, ◌/◌, ◌≤◌, ◌<◌}
 use native.Mathlib.Omega.{arith}
-use borrow.Author.Tests.{leb-true, le-leb, lt-leb, eq-eqb, ne_eqb}
+use borrow.Author.Tests.{leb-true, le-leb, lt-leb}
 use lib.Dec.{T, leb, le→leb}
 use lib.IntN.{ℤ, pos, negsuc, ◌+ℤ◌, ◌-ℤ◌, +ℤ_idr}
 use lib.ListN.{length, get_or, set, drop, length-append, drop_of_length-le}
@@ -13,21 +13,18 @@ use lib.Signed.{mag}
 use lib.Ieee.Fits.{and_i}
 use mir.Syntax.{w32}
 use mir.Val.{SFits}
+use Rattle.std.specs.Prelude.{Option, Some, None}
+use Rattle.std.specs.Option.{SomeIff}
+use Rattle.std.proofs.lemmas.Option.{cond_some}
 use Rattle.points.specs.Plane.{in_range, legal}
 use Rattle.points.specs.Compass.{sign_of}
 use Rattle.points.specs.declared.Point.{Point}
-use Rattle.points.specs.declared.Refusal.TheVariants.{List as ListBroken, BadPoint}
 use Rattle.points.proofs.Signed.{in_halves, parts}
 use Rattle.points.proofs.Halves.{sign_z, step_in, mag_of, sub_law, add_is, apart}
-use Rattle.pairs.specs.Pairs.{first_bad, point, point_at}
+use Rattle.pairs.specs.Pairs.{point, point_at}
 use Rattle.headings.specs.Headings.{span_of}
-use Rattle.paths.specs.Walks.{step_by, closer_to, next_to, walk_of, path_from, path_of, counted_of, path_answer, point_of, room_of}
-use Rattle.pairs.specs.declared.Bad.{Bad}
-use Rattle.pairs.specs.declared.Bad.TheVariants.{At, Nowhere}
+use Rattle.paths.specs.Walks.{step_by, closer_to, next_to, walk_of, path_from, path_of, counted_of}
 use Rattle.pairs.proofs.Laws.{two_more}
-use Rattle.paths.specs.declared.Written.TheVariants.{Refused}
-use Rattle.paths.specs.declared.Counted.{Counted}
-use Rattle.paths.specs.declared.Counted.TheVariants.{Few, Over}
 
 in_of : (z : ℤ) → mag z < 1024 → T (in_range z)
 in_of (pos n) h = le→leb n 1023 (omega arith)
@@ -70,55 +67,41 @@ unfolding walk_of
 walk_length zero p q = refl
 walk_length (suc n) p q = omega (arith, walk_length n (next_to p q) q)
 
-module _ (out : List ℤ) (k : ℕ) (p q : Point) where
-  pub walk_done : (left : ℕ) → left ≤ 0 → sets out k (walk_of left p q) ≡ out
-  unfolding walk_of
-  walk_done zero h = refl
-  walk_done (suc n) h = absurd (none n h)
-    where
-      none : (n : ℕ) → suc n ≤ 0 → ⊥
-      none n h = omega arith
+-- no step is left
+pub walk_done : (out : List ℤ) (k left : ℕ) (p q : Point) → left ≡ 0 → sets out k (walk_of left p q) ≡ out
+unfolding walk_of
+walk_done out k left p q e = ap (λ (n : ℕ). sets out k (walk_of n p q)) e
 
-  pub walk_turn : (left : ℕ) → 0 < left → sets out k (walk_of left p q) ≡ sets (set (set out k (next_to p q).x) (k + 1) (next_to p q).y) (k + 2) (walk_of (left - 1) (next_to p q) q)
-  unfolding walk_of
-  walk_turn zero h = absurd (none h)
-    where
-      none : 0 < 0 → ⊥
-      none h = omega arith
-  walk_turn (suc n) h = λ i. sets (set (set out k (next_to p q).x) (one i) (next_to p q).y) (two i) (walk_of (less i) (next_to p q) q)
-    where
-      one : suc k ≡ k + 1
-      one = omega arith
+-- a turn of the walk's loop: r is the next point, new the list after it is stored, n how many steps are left then
+pub walk_here : (out new : List ℤ) (k j : ℕ) (p q r : Point) (n m : ℕ) → r ≡ next_to p q → new ≡ set (set out k r.x) (k + 1) r.y → j ≡ k + 2 → m ≡ suc n
+    → sets new j (walk_of n r q) ≡ sets out k (walk_of m p q)
+unfolding walk_of
+walk_here out new k j p q r n m e f g h =
+    (λ i. sets (f i) (g i) (walk_of n r q))
+    ∙ (λ i. sets (set (set out k (e i).x) (one i) (e i).y) (two i) (walk_of n (e i) q))
+    ∙ ap (λ (z : ℕ). sets out k (walk_of z p q)) (sym h)
+  where
+    one : k + 1 ≡ suc k
+    one = omega arith
 
-      two : suc (suc k) ≡ k + 2
-      two = omega arith
-
-      less : n ≡ suc n - 1
-      less = omega arith
-
--- a turn of the walk's loop: r is the next point, new the list after it is stored
-pub walk_here : (out new : List ℤ) (k : ℕ) (p q r : Point) (left : ℕ) → r ≡ next_to p q → new ≡ set (set out k r.x) (k + 1) r.y → 0 < left
-    → sets new (k + 2) (walk_of (left - 1) r q) ≡ sets out k (walk_of left p q)
-walk_here out new k p q r left e f h =
-    (λ i. sets (f i) (k + 2) (walk_of (left - 1) r q))
-    ∙ (λ i. sets (set (set out k (e i).x) (k + 1) (e i).y) (k + 2) (walk_of (left - 1) (e i) q))
-    ∙ sym (walk_turn out k p q left h)
+    two : k + 2 ≡ suc (suc k)
+    two = omega arith
 
 -- ---- the path, one waypoint at a time
-module _ (l : List ℤ) (i : ℕ) where
-  pub path_more : (p : Point) → i + 1 < length l → path_from p (drop i l) ≡ walk_of (span_of p (point_at l i)) p (point_at l i) ++ path_from (point_at l i) (drop (i + 2) l)
+module _ (l : List ℤ) (k : ℕ) where
+  pub path_more : (p : Point) → 2 * k + 1 < length l → path_from p (drop (2 * k) l) ≡ walk_of (span_of p (point_at l (2 * k))) p (point_at l (2 * k)) ++ path_from (point_at l (2 * k)) (drop (2 * (k + 1)) l)
   unfolding path_from
-  path_more p h = ap (path_from p) (two_more l i h)
+  path_more p h = ap (path_from p) (two_more l k h)
 
-  pub path_end : (p : Point) → length l ≤ i → path_from p (drop i l) ≡ []
+  pub path_end : (p : Point) → length l ≤ 2 * k → path_from p (drop (2 * k) l) ≡ []
   unfolding path_from
   path_end p h = ap (path_from p) (drop_of_length-le l h)
 
-  pub length_more : (p : Point) → i + 1 < length l → length (path_from p (drop i l)) ≡ 2 * span_of p (point_at l i) + length (path_from (point_at l i) (drop (i + 2) l))
+  pub length_more : (p : Point) → 2 * k + 1 < length l → length (path_from p (drop (2 * k) l)) ≡ 2 * span_of p (point_at l (2 * k)) + length (path_from (point_at l (2 * k)) (drop (2 * (k + 1)) l))
   length_more p h =
       ap length (path_more p h)
-      ∙ length-append (walk_of (span_of p (point_at l i)) p (point_at l i)) (path_from (point_at l i) (drop (i + 2) l))
-      ∙ ap (λ (n : ℕ). n + length (path_from (point_at l i) (drop (i + 2) l))) (walk_length (span_of p (point_at l i)) p (point_at l i))
+      ∙ length-append (walk_of (span_of p (point_at l (2 * k))) p (point_at l (2 * k))) (path_from (point_at l (2 * k)) (drop (2 * (k + 1)) l))
+      ∙ ap (λ (n : ℕ). n + length (path_from (point_at l (2 * k)) (drop (2 * (k + 1)) l))) (walk_length (span_of p (point_at l (2 * k))) p (point_at l (2 * k)))
 
 -- two runs of stores, one after the other
 pub sets_append : (l : List ℤ) (i : ℕ) (xs ys : List ℤ) → sets l i (xs ++ ys) ≡ sets (sets l i xs) (i + length xs) ys
@@ -131,26 +114,26 @@ sets_append l i (x ∷ xs) ys = sets_append (set l i x) (suc i) xs ys ∙ ap (λ
     shift : (a b : ℕ) → suc a + b ≡ a + suc b
     shift a b = omega arith
 
-pub stores_more : (out : List ℤ) (at : ℕ) (l : List ℤ) (i : ℕ) (p : Point) → i + 1 < length l
-    → sets out at (path_from p (drop i l)) ≡ sets (sets out at (walk_of (span_of p (point_at l i)) p (point_at l i))) (at + 2 * span_of p (point_at l i)) (path_from (point_at l i) (drop (i + 2) l))
-stores_more out at l i p h =
-    let q = point_at l i in
-    ap (sets out at) (path_more l i p h)
-    ∙ sets_append out at (walk_of (span_of p q) p q) (path_from q (drop (i + 2) l))
-    ∙ ap (λ (n : ℕ). sets (sets out at (walk_of (span_of p q) p q)) (at + n) (path_from q (drop (i + 2) l))) (walk_length (span_of p q) p q)
+pub stores_more : (out : List ℤ) (at : ℕ) (l : List ℤ) (k : ℕ) (p : Point) → 2 * k + 1 < length l
+    → sets out at (path_from p (drop (2 * k) l)) ≡ sets (sets out at (walk_of (span_of p (point_at l (2 * k))) p (point_at l (2 * k)))) (at + 2 * span_of p (point_at l (2 * k))) (path_from (point_at l (2 * k)) (drop (2 * (k + 1)) l))
+stores_more out at l k p h =
+    let q = point_at l (2 * k) in
+    ap (sets out at) (path_more l k p h)
+    ∙ sets_append out at (walk_of (span_of p q) p q) (path_from q (drop (2 * (k + 1)) l))
+    ∙ ap (λ (n : ℕ). sets (sets out at (walk_of (span_of p q) p q)) (at + n) (path_from q (drop (2 * (k + 1)) l))) (walk_length (span_of p q) p q)
 
 -- ---- the same for a point that a call handed back
-module _ (l : List ℤ) (i : ℕ) (p r : Point) (e : r ≡ point_at l i) where
-  pub length_here : i + 1 < length l → length (path_from p (drop i l)) ≡ 2 * span_of p r + length (path_from r (drop (i + 2) l))
-  length_here h = length_more l i p h ∙ ap (λ (q : Point). 2 * span_of p q + length (path_from q (drop (i + 2) l))) (sym e)
+module _ (l : List ℤ) (k : ℕ) (p r : Point) (e : r ≡ point_at l (2 * k)) where
+  pub length_here : 2 * k + 1 < length l → length (path_from p (drop (2 * k) l)) ≡ 2 * span_of p r + length (path_from r (drop (2 * (k + 1)) l))
+  length_here h = length_more l k p h ∙ ap (λ (q : Point). 2 * span_of p q + length (path_from q (drop (2 * (k + 1)) l))) (sym e)
 
-  -- a turn of the path's loop: the walk to r is stored, and k is the place after it
-  pub stores_here : (out new : List ℤ) (at k : ℕ) → k ≡ at + 2 * span_of p r → new ≡ sets out at (walk_of (span_of p r) p r) → i + 1 < length l
-      → sets new k (path_from r (drop (i + 2) l)) ≡ sets out at (path_from p (drop i l))
-  stores_here out new at k d f h =
-      (λ j. sets (f j) (d j) (path_from r (drop (i + 2) l)))
-      ∙ (λ j. sets (sets out at (walk_of (span_of p (e j)) p (e j))) (at + 2 * span_of p (e j)) (path_from (e j) (drop (i + 2) l)))
-      ∙ sym (stores_more out at l i p h)
+  -- a turn of the path's loop: the walk to r is stored, and `to` is the place after it
+  pub stores_here : (out new : List ℤ) (at to : ℕ) → to ≡ at + 2 * span_of p r → new ≡ sets out at (walk_of (span_of p r) p r) → 2 * k + 1 < length l
+      → sets new to (path_from r (drop (2 * (k + 1)) l)) ≡ sets out at (path_from p (drop (2 * k) l))
+  stores_here out new at to d f h =
+      (λ j. sets (f j) (d j) (path_from r (drop (2 * (k + 1)) l)))
+      ∙ (λ j. sets (sets out at (walk_of (span_of p (e j)) p (e j))) (at + 2 * span_of p (e j)) (path_from (e j) (drop (2 * (k + 1)) l)))
+      ∙ sym (stores_more out at l k p h)
 
 -- ---- the whole path
 pub path_whole : (l : List ℤ) → 1 < length l → path_of l ≡ get_or l 0 (pos 0) ∷ get_or l 1 (pos 0) ∷ path_from (point_at l 0) (drop 2 l)
@@ -167,47 +150,25 @@ path_length l r e h = ap length (path_whole l h) ∙ ap (λ (q : Point). suc (su
 pub path_stores : (l out : List ℤ) (r : Point) → r ≡ point_at l 0 → 1 < length l → sets out 0 (path_of l) ≡ sets (set (set out 0 r.x) 1 r.y) 2 (path_from r (drop 2 l))
 path_stores l out r e h = ap (sets out 0) (path_whole l h) ∙ ap (λ (q : Point). sets (set (set out 0 q.x) 1 q.y) 2 (path_from q (drop 2 l))) (sym e)
 
+-- what is left of a room, or that it does not do
+pub room_none : (r : Option ℕ) (n m : ℕ) → SomeIff r (n ≤ m) (m - n) → r ≡ None → m < n
+room_none r n m s e = let f : (n ≤ m → ⊥) = subst (λ (o : Option ℕ). SomeIff o (n ≤ m) (m - n)) e s in omega arith
+
+pub room_some : (r : Option ℕ) (n m x : ℕ) → SomeIff r (n ≤ m) (m - n) → r ≡ Some x → (n ≤ m) × (x ≡ m - n)
+room_some r n m x s e = subst (λ (o : Option ℕ). SomeIff o (n ≤ m) (m - n)) e s
+
 -- the count, by the room that is left
-pub counted_over : (l : List ℤ) (room : ℕ) → 2 * room < length (path_of l) → Over ≡ counted_of l room
+pub counted_over : (l : List ℤ) (room : ℕ) → 2 * room < length (path_of l) → None ≡ counted_of l room
 unfolding counted_of
 counted_over l room h = rw (lt-leb _ _ h)
 
-pub counted_few : (l : List ℤ) (room n : ℕ) → length (path_of l) ≡ 2 * n → n ≤ room → Few n ≡ counted_of l room
+pub counted_few : (l : List ℤ) (room n : ℕ) → length (path_of l) ≡ 2 * n → n ≤ room → Some n ≡ counted_of l room
 unfolding counted_of
-counted_few l room n e h = rw (le-leb (length (path_of l)) (2 * room) (omega arith)) (ap Few half)
+counted_few l room n e h = rw (le-leb (length (path_of l)) (2 * room) (omega arith)) (ap Some half)
   where
     half : n ≡ length (path_of l) / 2
     half = omega arith
 
-pub few_room : (l : List ℤ) (room n : ℕ) → Few n ≡ counted_of l room → length (path_of l) ≤ 2 * room
+pub few_room : (l : List ℤ) (room n : ℕ) → counted_of l room ≡ Some n → length (path_of l) ≤ 2 * room
 unfolding counted_of
-few_room l room n e = go (leb (length (path_of l)) (2 * room)) (leb-true (length (path_of l)) (2 * room)) e
-  where
-    go : (t : Bool) → (t ≡ true → length (path_of l) ≤ 2 * room) → Few n ≡ cond t (Few (length (path_of l) / 2)) Over → length (path_of l) ≤ 2 * room
-    go true h q = h refl
-    go false h q = absurd (never q)
-      where
-        never : Few n ≡ Over → ⊥
-        never q = let z : ◌≡◌ {A = ℕ} 0 1 = cc in omega arith
-
--- ---- the answer: LIST, POINT, ROOM
-module _ (l : List ℤ) (room : ℕ) where
-  pub answer_empty : length l ≡ 0 → Refused ListBroken ≡ path_answer l room
-  unfolding path_answer
-  answer_empty e = rw (eq-eqb (length l) 0 e)
-
-  module _ (some : length l ≡ 0 → ⊥) where
-    pub answer_odd : length l % 2 ≡ 1 → Refused ListBroken ≡ path_answer l room
-    unfolding path_answer
-    answer_odd e = rw (ne_eqb (length l) 0 some, eq-eqb (length l % 2) 1 e)
-
-    module _ (even : length l % 2 ≡ 1 → ⊥) where
-      whole : path_answer l room ≡ point_of (first_bad l) (room_of (counted_of l (room / 2)))
-      unfolding path_answer
-      whole = rw (ne_eqb (length l) 0 some, ne_eqb (length l % 2) 1 even)
-
-      pub answer_point : (p : Point) → first_bad l ≡ At p → Refused (BadPoint p) ≡ path_answer l room
-      answer_point p e = sym (whole ∙ ap (λ (b : Bad). point_of b (room_of (counted_of l (room / 2)))) e)
-
-      pub answer_counted : (k : Counted) → first_bad l ≡ Nowhere → k ≡ counted_of l (room / 2) → room_of k ≡ path_answer l room
-      answer_counted k e f = sym (whole ∙ ap (λ (b : Bad). point_of b (room_of (counted_of l (room / 2)))) e ∙ ap room_of (sym f))
+few_room l room n e = leb-true (length (path_of l)) (2 * room) (cond_some (leb (length (path_of l)) (2 * room)) (length (path_of l) / 2) n e).0

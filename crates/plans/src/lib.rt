@@ -11,7 +11,7 @@ use goals::{Goal, Plan};
 use points::Point;
 
 // The lengths of the lent working room.
-#[derive(Clone, Copy)]
+#[derive(Clone, Copy, PartialEq, Eq)]
 pub struct Lengths {
     pub number: usize,
     pub place: usize,
@@ -25,25 +25,13 @@ pub struct Lengths {
 pub fn ready(s: Settings, l: Lengths, places: usize) -> bool
     ensures { result ≡ ready_of s l places }
 {
-    if !s.legal() {
-        return false;
-    }
-    if l.number < places {
-        return false;
-    }
-    if l.place < places {
-        return false;
-    }
-    if l.parent < places {
-        return false;
-    }
-    if l.cost < places {
-        return false;
-    }
-    if l.keys < s.fringe {
-        return false;
-    }
-    s.fringe <= l.idx
+    s.legal()
+        && places <= l.number
+        && places <= l.place
+        && places <= l.parent
+        && places <= l.cost
+        && s.fringe <= l.keys
+        && s.fringe <= l.idx
 }
 
 // Whether the component test of a single-goal search says no.
@@ -83,13 +71,12 @@ pub fn plan(w: usize, h: usize, s: Settings, goal: Goal, start: Point) -> Plan
     requires { Sides w h }
     ensures { result ≡ plan_of w h s goal start }
 {
-    let target = stops::goal_cell(w, h, goal);
     Plan {
         start,
         goal,
         w,
         h,
-        target,
+        target: stops::goal_cell(w, h, goal),
         settings: s,
     }
 }

@@ -1,20 +1,17 @@
--- What the machine's signed numbers are, for coordinates in range: their differences, signs and steps. By the halves of `Halves`. Assumes nothing.
-use mathlib.Core.Path.{◌≡◌, refl, sym, ap, ◌∙◌, subst}
-use mathlib.Core.Bool.{Bool, true, false, ◌&&◌, true≢false}
-use borrow.Author.Tests.{ltb-true, ltb-false, lt-leb, le-leb}
-use Prim.Native.Nat.{ℕ, zero, suc, ◌<◌, ◌≤◌, ◌%◌}
+-- What the machine's signed numbers are, for coordinates in range: their differences and steps. By the halves of `Halves`. Assumes nothing.
+use mathlib.Core.Path.{◌≡◌, sym, ap, ◌∙◌, subst}
+use mathlib.Core.Bool.{true}
+use Prim.Native.Nat.{ℕ, ◌<◌, ◌≤◌, ◌%◌}
 use native.Mathlib.Omega.{arith}
 use native.Mathlib.Nat.{mod-lt}
 use lib.Dec.{T, leb, leb→le, lit<}
-use lib.IntN.{ℤ, pos, negsuc, neg_ℤ, nat_abs, ◌+ℤ◌, ◌-ℤ◌, +ℤ_idl}
-use lib.Signed.{lt_z, le_z, non_neg}
+use lib.IntN.{ℤ, pos, negsuc, nat_abs, ◌+ℤ◌, ◌-ℤ◌}
 use mir.Syntax.{w32}
-use mir.Val.{Fits, SFits, to_z, of_z}
-use mir.Facts.{to_z-of_z, and_yes, Fits-nat_abs}
+use mir.Val.{SFits, to_z, of_z}
+use mir.Facts.{to_z-of_z, and_yes}
 use Rattle.points.specs.Plane.{in_range, legal}
 use Rattle.points.specs.declared.Point.{Point}
-use Rattle.points.specs.declared.Sign.TheVariants.{Minus, Plus}
-use Rattle.points.specs.Compass.{sign_of, dx_of, dy_of}
+use Rattle.points.specs.Compass.{dx_of, dy_of}
 use Rattle.directions.specs.Offsets.{off_x, off_y}
 use Rattle.directions.proofs.Eight.{by_eight}
 use Rattle.points.proofs.Halves.{up, dn, apart, abs_is, add_is, sub_law, mag_of}
@@ -35,84 +32,11 @@ in_fits z t = small_fits z (omega (arith, (in_halves z t).0)) (omega (arith, (in
 pub read_in : (z : ℤ) → T (in_range z) → to_z w32 (of_z w32 z) ≡ z
 read_in z t = to_z-of_z (in_fits z t)
 
-module _ (a b : ℤ) (p : T (in_range a)) (q : T (in_range b)) where
-  pub diff_fits : SFits w32 (b -ℤ a)
-  diff_fits =
-      let d = b -ℤ a in
-      small_fits d
-      (omega (arith, sub_law b a, apart d, (in_halves a p).0, (in_halves a p).1, (in_halves b q).0, (in_halves b q).1))
-      (omega (arith, sub_law b a, apart d, (in_halves a p).0, (in_halves a p).1, (in_halves b q).0, (in_halves b q).1))
-
-  pub minus_fits : SFits w32 (pos 0 -ℤ (b -ℤ a))
-  minus_fits =
-      let d = b -ℤ a in
-      let m = pos 0 -ℤ d in
-      small_fits m
-      (omega (arith, sub_law (pos 0) d, sub_law b a, apart d, apart m, (in_halves a p).0, (in_halves a p).1, (in_halves b q).0, (in_halves b q).1))
-      (omega (arith, sub_law (pos 0) d, sub_law b a, apart d, apart m, (in_halves a p).0, (in_halves a p).1, (in_halves b q).0, (in_halves b q).1))
-
-  -- how far two coordinates are apart
-  pub gap_le : nat_abs (b -ℤ a) ≤ 2047
-  gap_le =
-      let d = b -ℤ a in
-      omega (arith, sub_law b a, abs_is d, apart d, (in_halves a p).0, (in_halves a p).1, (in_halves b q).0, (in_halves b q).1)
-
--- ---- the sign of a number, by the tests of the code
-
-pub below_zero : (z : ℤ) → lt_z z (pos 0) ≡ true → sign_of z ≡ Minus
-below_zero (pos n) e = absurd (none n (ltb-true n 0 e))
-  where
-    none : (n : ℕ) → n < 0 → ⊥
-    none n h = omega arith
-below_zero (negsuc n) e = refl
-
-pub above_zero : (z : ℤ) → lt_z z (pos 0) ≡ false → (z ≡ pos 0 → ⊥) → sign_of z ≡ Plus
-above_zero (pos zero) e f = absurd (f refl)
-above_zero (pos (suc n)) e f = refl
-above_zero (negsuc n) e f = absurd (true≢false e)
-
-pub nonneg_of : (z : ℤ) → lt_z z (pos 0) ≡ false → T (non_neg z)
-nonneg_of (pos n) e = tt
-nonneg_of (negsuc n) e = absurd (true≢false e)
-
-pub nonneg_neg : (z : ℤ) → lt_z z (pos 0) ≡ true → T (non_neg (pos 0 -ℤ z))
-nonneg_neg z e = subst (λ (k : ℤ). T (non_neg k)) (sym (+ℤ_idl (neg_ℤ z))) (go z e)
-  where
-    go : (z : ℤ) → lt_z z (pos 0) ≡ true → T (non_neg (neg_ℤ z))
-    go (pos zero) e = tt
-    go (pos (suc n)) e = absurd (none n (ltb-true (suc n) 0 e))
-      where
-        none : (n : ℕ) → suc n < 0 → ⊥
-        none n h = omega arith
-    go (negsuc n) e = tt
-
-pub nat_abs_minus : (z : ℤ) → nat_abs (pos 0 -ℤ z) ≡ nat_abs z
-nat_abs_minus z = ap nat_abs (+ℤ_idl (neg_ℤ z)) ∙ go z
-  where
-    go : (z : ℤ) → nat_abs (neg_ℤ z) ≡ nat_abs z
-    go (pos zero) = refl
-    go (pos (suc n)) = refl
-    go (negsuc n) = refl
-
-pub nat_abs_fits : (z : ℤ) → SFits w32 z → Fits w32 (nat_abs z)
-nat_abs_fits z f = Fits-nat_abs tt f
-
--- bits 0 are the number 0
-pub zero_bits : (z : ℤ) → SFits w32 z → of_z w32 z ≡ 0 → z ≡ pos 0
-zero_bits z f e = sym (to_z-of_z f) ∙ ap (to_z w32) e
-
-pub bits_zero : (z : ℤ) → z ≡ pos 0 → of_z w32 z ≡ 0
-bits_zero z e = ap (of_z w32) e
-
--- ---- the range test
-
-pub out_low : (z : ℤ) → lt_z z (negsuc 1023) ≡ true → false ≡ in_range z
-out_low (pos n) e = absurd (true≢false (sym e))
-out_low (negsuc n) e = sym (ap (λ (t : Bool). t && true) (lt-leb n 1023 (ltb-true 1023 n e)))
-
-pub in_low : (z : ℤ) → lt_z z (negsuc 1023) ≡ false → le_z z (pos 1023) ≡ in_range z
-in_low (pos n) e = refl
-in_low (negsuc n) e = sym (ap (λ (t : Bool). t && true) (le-leb n 1023 (ltb-false 1023 n e)))
+-- how far two coordinates are apart
+pub gap_le : (a b : ℤ) → T (in_range a) → T (in_range b) → nat_abs (b -ℤ a) ≤ 2047
+gap_le a b p q =
+    let d = b -ℤ a in
+    omega (arith, sub_law b a, abs_is d, apart d, (in_halves a p).0, (in_halves a p).1, (in_halves b q).0, (in_halves b q).1)
 
 -- ---- a coordinate and a step of at most one
 
@@ -155,10 +79,6 @@ dx_small n = one_off (off_x (n % 8)) (off_x_le (n % 8) (mod-lt n (lit< tt)))
 
 pub dy_small : (n : ℕ) → (up (dy_of n) ≤ 1) × (dn (dy_of n) ≤ 1)
 dy_small n = one_off (off_y (n % 8)) (off_y_le (n % 8) (mod-lt n (lit< tt)))
-
--- an offset less one fits
-pub off_fits : (k : ℕ) → k ≤ 2 → SFits w32 (pos k -ℤ pos 1)
-off_fits k h = small_fits (pos k -ℤ pos 1) (omega (arith, (one_off k h).0)) (omega (arith, (one_off k h).1))
 
 -- ---- two legal points
 

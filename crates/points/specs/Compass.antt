@@ -1,13 +1,11 @@
 -- Directions: steps, turns, the two cardinals of a diagonal, and the sign of a difference.
 -- Assumes nothing: these are definitions.
-use Rattle.std.specs.Prelude.{Bool, [], ◌∷◌, ℕ, zero, suc, ◌+◌, ◌-◌, ◌%◌, eqb, ℤ, pos, negsuc, ◌+ℤ◌, ◌-ℤ◌, get_or}
+use Rattle.std.specs.Prelude.{Bool, Option, Some, None, [], ◌∷◌, ℕ, zero, suc, ◌+◌, ◌-◌, ◌%◌, eqb, ℤ, pos, negsuc, ◌+ℤ◌, ◌-ℤ◌, get_or}
+use Rattle.std.specs.declared.cmp.Ordering.{Ordering}
+use Rattle.std.specs.declared.cmp.Ordering.TheVariants.{Less, Equal, Greater}
 use Rattle.directions.specs.Offsets.{off_x, off_y}
 use Rattle.points.specs.declared.Point.{Point}
 use Rattle.points.specs.declared.Direction.{Direction}
-use Rattle.points.specs.declared.Sign.{Sign}
-use Rattle.points.specs.declared.Sign.TheVariants.{Minus, Zero, Plus}
-use Rattle.points.specs.declared.Parts.{Parts}
-use Rattle.points.specs.declared.Parts.TheVariants.{Pair, Whole}
 
 -- the offsets of a direction number, read modulo 8
 abbrev pub dx_of : ℕ → ℤ
@@ -36,17 +34,17 @@ abbrev pub counterclockwise : Direction → ℕ → Direction
 counterclockwise d k = dir ((d.number % 8 + 8 - k % 8) % 8)
 
 -- a diagonal's two cardinals, along x and along y; a cardinal splits into nothing
-unfoldable pub split_at : ℕ → Parts
+unfoldable pub split_at : ℕ → Option (Direction × Direction)
 split_at k =
     get_or
-    (Whole ∷ Pair (dir 2) (dir 0) ∷ Whole ∷ Pair (dir 2) (dir 4) ∷ Whole ∷ Pair (dir 6) (dir 4) ∷ Whole ∷ Pair (dir 6) (dir 0) ∷ [])
-    k Whole
+    (None ∷ Some (dir 2, dir 0) ∷ None ∷ Some (dir 2, dir 4) ∷ None ∷ Some (dir 6, dir 4) ∷ None ∷ Some (dir 6, dir 0) ∷ [])
+    k None
 
-abbrev pub split_of : ℕ → Parts
+abbrev pub split_of : ℕ → Option (Direction × Direction)
 split_of n = split_at (n % 8)
 
--- the sign of a difference
-abbrev pub sign_of : ℤ → Sign
-sign_of (negsuc n) = Minus
-sign_of (pos zero) = Zero
-sign_of (pos (suc n)) = Plus
+-- the sign of a difference: how it compares with 0
+abbrev pub sign_of : ℤ → Ordering
+sign_of (negsuc n) = Less
+sign_of (pos zero) = Equal
+sign_of (pos (suc n)) = Greater

@@ -1,9 +1,15 @@
 -- The refusals' numbers, with the values that they carry. Assumes nothing: these are definitions.
-use Rattle.std.specs.Prelude.{ℕ, pos}
+use Rattle.std.specs.Prelude.{cond, Result, Ok, Err, ℕ, pos}
+use Rattle.points.specs.Plane.{legal}
 use Rattle.points.specs.declared.Point.{Point}
-use Rattle.points.specs.declared.Told.{Told}
 use Rattle.points.specs.declared.Refusal.{Refusal}
 use Rattle.points.specs.declared.Refusal.TheVariants.{Size, State, Setting, NoRoute, Goals, Exhausted, Depth, Fringe, Pops, Room, Same, Map, List, BadPoint}
+
+-- a refusal as plain numbers: its own, the line of MAP, and the point of SAME and POINT; 0 where it carries none
+pub record Told : Type 0 where
+  pub number : ℕ
+  pub line : ℕ
+  pub point : Point
 
 -- a number alone
 abbrev pub bare : ℕ → Told
@@ -33,3 +39,11 @@ told_of (Same p) = pointed 11 p
 told_of (Map n) = lined 12 n
 told_of List = bare 13
 told_of (BadPoint p) = pointed 14 p
+
+-- POINT, where a point is out of range; else the point
+abbrev pub checked_of : Point → Result Point Refusal
+checked_of p = cond (legal p) (Ok p) (Err (BadPoint p))
+
+-- POINT (first, then second), else the answer r
+abbrev pub of_legal : {X : Type 0} → Point → Point → Result X Refusal → Result X Refusal
+of_legal a b r = cond (legal a) (cond (legal b) r (Err (BadPoint b))) (Err (BadPoint a))

@@ -4,31 +4,25 @@
 ghost use Rattle.std.specs.Prelude.{◌≡◌, ◌≤◌, ◌<◌, ◌+◌, ◌%◌, T, ◌-ℤ◌, nat_abs};
 ghost use Rattle.points.specs.Plane.{in_range, legal};
 ghost use Rattle.points.specs.Compass.{dx_of, dy_of, moved, sign_of, diagonal_of, split_of, clockwise, counterclockwise};
-ghost use Rattle.points.specs.Refusals.{bare, pointed, lined, told_of};
+ghost use Rattle.points.specs.Refusals.{told_of, checked_of};
+
+use std::cmp::Ordering;
 
 // A place of the plane.
-#[derive(Clone, Copy)]
+#[derive(Clone, Copy, PartialEq, Eq)]
 pub struct Point {
     pub x: i32,
     pub y: i32,
 }
 
 // One of the eight directions; the number is read modulo 8.
-#[derive(Clone, Copy)]
+#[derive(Clone, Copy, PartialEq, Eq)]
 pub struct Direction {
     pub number: u8,
 }
 
-// The sign of a difference.
-#[derive(Clone, Copy)]
-pub enum Sign {
-    Minus,
-    Zero,
-    Plus,
-}
-
 // Why a call of the library is refused.
-#[derive(Clone, Copy)]
+#[derive(Clone, Copy, PartialEq, Eq)]
 pub enum Refusal {
     Size,
     State,
@@ -46,44 +40,19 @@ pub enum Refusal {
     BadPoint(Point),
 }
 
-// A refusal as plain numbers: its own, the line of MAP, and the point of SAME and POINT; 0 where it carries none.
-#[derive(Clone, Copy)]
-pub struct Told {
-    pub number: u8,
-    pub line: usize,
-    pub point: Point,
-}
-
-// A diagonal's cardinal along x and its cardinal along y; a cardinal is whole.
-#[derive(Clone, Copy)]
-pub enum Parts {
-    Pair(Direction, Direction),
-    Whole,
-}
-
 // Whether a coordinate is in -1024..=1023.
 pub fn in_range(v: i32) -> bool
     ensures { result ≡ in_range v }
 {
-    if v < -1024 {
-        return false;
-    }
-    v <= 1023
+    (-1024..=1023).contains(&v)
 }
 
-// The sign of b - a.
-pub fn sign_between(a: i32, b: i32) -> Sign
+// The sign of b - a: how it compares with 0.
+pub fn sign_between(a: i32, b: i32) -> Ordering
     requires { T (in_range a) × T (in_range b) }
     ensures { result ≡ sign_of (b -ℤ a) }
 {
-    let d = b - a;
-    if d < 0 {
-        Sign::Minus
-    } else if d == 0 {
-        Sign::Zero
-    } else {
-        Sign::Plus
-    }
+    (b - a).cmp(&0)
 }
 
 // The absolute value of b - a.
@@ -91,8 +60,7 @@ pub fn gap(a: i32, b: i32) -> u32
     requires { T (in_range a) × T (in_range b) }
     ensures { (result ≡ nat_abs (b -ℤ a)) × (result ≤ 2047) }
 {
-    let d = b - a;
-    if d < 0 { (0 - d) as u32 } else { d as u32 }
+    (b - a).unsigned_abs()
 }
 
 impl Point {
@@ -100,10 +68,17 @@ impl Point {
     pub fn legal(self) -> bool
         ensures { result ≡ legal self }
     {
-        if in_range(self.x) {
-            in_range(self.y)
+        in_range(self.x) && in_range(self.y)
+    }
+
+    // The point itself. Refuses POINT, where it is out of range.
+    pub fn checked(self) -> Result<Point, Refusal>
+        ensures { result ≡ checked_of self }
+    {
+        if self.legal() {
+            Ok(self)
         } else {
-            false
+            Err(Refusal::BadPoint(self))
         }
     }
 
@@ -124,26 +99,22 @@ impl Direction {
     pub fn rotate_cw(self, eighths: u8) -> Direction
         ensures { result ≡ clockwise self eighths }
     {
-        let mut n = self.number % 8;
-        let mut left = eighths % 8;
-        while 0 < left {
-            n = directions::right_of(n);
-            left -= 1;
+        let mut number = self.number % 8;
+        for _ in 0..eighths % 8 {
+            number = directions::right_of(number);
         }
-        Direction { number: n }
+        Direction { number }
     }
 
     // Turned by eighths of a turn, counter-clockwise on a printed map.
     pub fn rotate_ccw(self, eighths: u8) -> Direction
         ensures { result ≡ counterclockwise self eighths }
     {
-        let mut n = self.number % 8;
-        let mut left = eighths % 8;
-        while 0 < left {
-            n = directions::left_of(n);
-            left -= 1;
+        let mut number = self.number % 8;
+        for _ in 0..eighths % 8 {
+            number = directions::left_of(number);
         }
-        Direction { number: n }
+        Direction { number }
     }
 
     // The direction half a turn away.
@@ -174,59 +145,25 @@ impl Direction {
         directions::off_y(self.number) as i32 - 1
     }
 
-    // A diagonal's two cardinals; a cardinal splits into nothing.
-    pub fn split(self) -> Parts
+    // A diagonal's cardinal along x and its cardinal along y; a cardinal splits into nothing.
+    #[tactic(auto, unfolding(crate::specs::Compass::split_at))]
+    pub fn split(self) -> Option<(Direction, Direction)>
         ensures { result ≡ split_of self.number }
     {
-        let n = self.number % 8;
-        match n {
-            1 => Parts::Pair(Direction { number: 2 }, Direction { number: 0 }),
-            3 => Parts::Pair(Direction { number: 2 }, Direction { number: 4 }),
-            5 => Parts::Pair(Direction { number: 6 }, Direction { number: 4 }),
-            7 => Parts::Pair(Direction { number: 6 }, Direction { number: 0 }),
-            _ => Parts::Whole,
-        }
-    }
-}
-
-impl Told {
-    // A number alone.
-    fn bare(number: u8) -> Told
-        ensures { result ≡ bare number }
-    {
-        Told {
-            number,
-            line: 0,
-            point: Point { x: 0, y: 0 },
-        }
-    }
-
-    // A number with the point concerned.
-    fn pointed(number: u8, point: Point) -> Told
-        ensures { result ≡ pointed number point }
-    {
-        Told {
-            number,
-            line: 0,
-            point,
-        }
-    }
-
-    // A number with a line.
-    fn lined(number: u8, line: usize) -> Told
-        ensures { result ≡ lined number line }
-    {
-        Told {
-            number,
-            line,
-            point: Point { x: 0, y: 0 },
-        }
+        let (x, y) = match self.number % 8 {
+            1 => (2, 0),
+            3 => (2, 4),
+            5 => (6, 4),
+            7 => (6, 0),
+            _ => return None,
+        };
+        Some((Direction { number: x }, Direction { number: y }))
     }
 }
 
 impl Refusal {
     // The refusal's number in the scope's table.
-    fn number(self) -> u8
+    pub fn number(self) -> u8
         ensures { result ≡ (told_of self).number }
     {
         match self {
@@ -247,16 +184,23 @@ impl Refusal {
         }
     }
 
-    // The refusal's number, with the values that it carries.
-    pub fn told(self) -> Told
-        ensures { result ≡ told_of self }
+    // The line that MAP carries; 0 of any other.
+    pub fn line(self) -> usize
+        ensures { result ≡ (told_of self).line }
     {
-        let number = self.number();
         match self {
-            Refusal::Same(p) => Told::pointed(number, p),
-            Refusal::Map(n) => Told::lined(number, n),
-            Refusal::BadPoint(p) => Told::pointed(number, p),
-            _ => Told::bare(number),
+            Refusal::Map(line) => line,
+            _ => 0,
+        }
+    }
+
+    // The point that SAME and POINT carry; (0, 0) of any other.
+    pub fn point(self) -> Point
+        ensures { result ≡ (told_of self).point }
+    {
+        match self {
+            Refusal::Same(p) | Refusal::BadPoint(p) => p,
+            _ => Point { x: 0, y: 0 },
         }
     }
 }

@@ -10,13 +10,13 @@ use lib.Dec.{T, ltb}
 use lib.IntN.{ℤ, pos, negsuc, nat_abs, ◌-ℤ◌}
 use lib.Signed.{lt_z}
 use mir.Syntax.{w32}
-use mir.Val.{SFits}
+use mir.Val.{SFits, bool_byte}
 use Rattle.points.specs.Plane.{in_range}
 use Rattle.points.proofs.Halves.{mag_of, sub_law, apart, abs_is}
 use Rattle.points.proofs.Signed.{in_halves}
 use native.Mathlib.Numerals.{add-one}
-use lib.ListN.{length, set, drop, get_or, drop_of_length-le, length-append}
-use lib.Seq.{sets, drop-cons}
+use lib.ListN.{length, set, length-append}
+use lib.Seq.{sets}
 use Rattle.printing.specs.Render.{digits_in, digits_of, coord_text, pair_text, number_text, point_text}
 use Rattle.points.specs.declared.Point.{Point}
 
@@ -95,14 +95,6 @@ pub coord_length : (z : ℤ) → length (coord_text z) ≤ 6
 coord_length (pos n) = omega (arith, digits_length n)
 coord_length (negsuc n) = omega (arith, digits_length (suc n))
 
--- ---- a word, one store at a time
-module _ (w : List ℕ) (j : ℕ) (l : List ℕ) (i : ℕ) where
-  pub word_done : length w ≤ j → sets l i (drop j w) ≡ l
-  word_done h = rw (drop_of_length-le w h)
-
-  pub word_more : j < length w → sets l i (drop j w) ≡ sets (set l i (get_or w j 0)) (i + 1) (drop (j + 1) w)
-  word_more h = rw (drop-cons w j 0 h, add-one i, add-one j)
-
 -- ---- a point: the word W, X, a comma, Y and a newline
 pub point_stores : (l : List ℕ) (i : ℕ) (W X Y : List ℕ)
     → sets l i (W ++ ((X ++ (44 ∷ Y)) ++ (10 ∷ [])))
@@ -140,7 +132,11 @@ then {l} {x} {y} {new} {last} {at} {mid} {end} a b = record {
   holds = b.holds ∙ (λ i. sets (a.holds i) (a.ends i) y) ∙ sym (sets_append l at x y);
 }
 
--- ---- 1 or 0
+-- ---- 1 or 0, as a flag is converted
+pub flag_is : (d : Bool) → bool_byte d ≡ cond d 1 0
+flag_is true = refl
+flag_is false = refl
+
 pub flag_most : (d : Bool) → cond {A = ℕ} d 1 0 ≤ 1
 flag_most true = omega arith
 flag_most false = omega arith

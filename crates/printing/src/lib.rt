@@ -1,7 +1,7 @@
 // Numbers, points and lines of text: the writer. Each function writes at a place and hands back the place after it.
 #![tactic(auto)]
 
-ghost use Rattle.std.specs.Prelude.{◌≡◌, cond, ◌+◌, ◌≤◌, ◌<◌, T, length};
+ghost use Rattle.std.specs.Prelude.{◌≡◌, ◌+◌, ◌≤◌, ◌<◌, T, length};
 ghost use Rattle.std.proofs.lemmas.List.Edits.{sets};
 ghost use Rattle.points.specs.Plane.{in_range, legal};
 ghost use Rattle.printing.specs.Render.{digits_of, coord_text, number_text, point_text};
@@ -14,11 +14,11 @@ fn put_number(buf: &mut [u8], at: usize, n: u32) -> usize
     ensures { (result ≡ at + length (digits_of n)) × (buf.new ≡ sets buf.old at (digits_of n)) }
 {
     if n < 10 {
-        buf[at] = (n + 48) as u8;
+        buf[at] = n as u8 + b'0';
         return at + 1;
     }
     let end = put_number(buf, at, n / 10);
-    buf[end] = (n % 10 + 48) as u8;
+    buf[end] = (n % 10) as u8 + b'0';
     end + 1
 }
 
@@ -28,10 +28,10 @@ fn put_coord(buf: &mut [u8], at: usize, z: i32) -> usize
     ensures { (result ≡ at + length (coord_text z)) × (buf.new ≡ sets buf.old at (coord_text z)) }
 {
     if z < 0 {
-        buf[at] = 45;
-        return put_number(buf, at + 1, (0 - z) as u32);
+        buf[at] = b'-';
+        return put_number(buf, at + 1, z.unsigned_abs());
     }
-    put_number(buf, at, z as u32)
+    put_number(buf, at, z.unsigned_abs())
 }
 
 // A word as it stands.
@@ -39,14 +39,9 @@ pub fn put_word(buf: &mut [u8], at: usize, word: &[u8]) -> usize
     requires { at + length word.now ≤ length buf.old }
     ensures { (result ≡ at + length word.now) × (buf.new ≡ sets buf.old at word.now) }
 {
-    let mut i = at;
-    let mut j = 0;
-    while j < word.len() {
-        buf[i] = word[j];
-        i += 1;
-        j += 1;
-    }
-    i
+    let end = at + word.len();
+    buf[at..end].copy_from_slice(word);
+    end
 }
 
 // A line: a word, a number, a newline.
@@ -56,7 +51,7 @@ pub fn put_number_line(buf: &mut [u8], at: usize, word: &[u8], n: u32) -> usize
 {
     let a = put_word(buf, at, word);
     let b = put_number(buf, a, n);
-    buf[b] = 10;
+    buf[b] = b'\n';
     b + 1
 }
 
@@ -67,18 +62,8 @@ pub fn put_point_line(buf: &mut [u8], at: usize, word: &[u8], p: Point) -> usize
 {
     let a = put_word(buf, at, word);
     let b = put_coord(buf, a, p.x);
-    buf[b] = 44;
+    buf[b] = b',';
     let c = put_coord(buf, b + 1, p.y);
-    buf[c] = 10;
+    buf[c] = b'\n';
     c + 1
-}
-
-// 1 or 0.
-pub fn flag(b: bool) -> u32
-    ensures { result ≡ cond b 1 0 }
-{
-    if b {
-        return 1;
-    }
-    0
 }

@@ -3,19 +3,18 @@
 
 ghost use Rattle.std.specs.Prelude.{◌≡◌, not, ◌*◌, ◌<◌};
 ghost use Rattle.components.specs.Components.{Forest};
-ghost use Rattle.cells.specs.Cells.{Within, Sides};
+ghost use Rattle.cells.specs.Cells.{cell_to, Sides};
 ghost use Rattle.joins.specs.Joins.{Ways};
 ghost use Rattle.questions.specs.Questions.{rooted_of, reachable_of, near_along, near_of, neighbours_reachable_of, neighbours_unreachable_of};
+
+use cells::{Size, Spot};
 
 // Whether c is a cell whose root is r.
 fn rooted(parent: &[u16], rank: &[u8], n: usize, r: usize, c: usize) -> bool
     requires { Forest 200 n parent.now rank.now }
     ensures { result ≡ rooted_of n parent.now r c }
 {
-    if n <= c {
-        return false;
-    }
-    r == components::find(parent, rank, n, c)
+    c < n && r == components::find(parent, rank, n, c)
 }
 
 // Whether two cells share a component. No where one is outside. Two with one parent do: the usual case after a rebuild, and no walk.
@@ -23,17 +22,10 @@ pub fn reachable(parent: &[u16], rank: &[u8], n: usize, a: usize, c: usize) -> b
     requires { Forest 200 n parent.now rank.now }
     ensures { result ≡ reachable_of n parent.now a c }
 {
-    if n <= a {
+    if n <= a || n <= c {
         return false;
     }
-    if n <= c {
-        return false;
-    }
-    if parent[a] == parent[c] {
-        return true;
-    }
-    let root = components::find(parent, rank, n, a);
-    root == components::find(parent, rank, n, c)
+    parent[a] == parent[c] || rooted(parent, rank, n, components::find(parent, rank, n, a), c)
 }
 
 // Whether they do not. Yes where one is outside.
@@ -44,47 +36,33 @@ pub fn unreachable(parent: &[u16], rank: &[u8], n: usize, a: usize, c: usize) ->
     !reachable(parent, rank, n, a, c)
 }
 
-// Whether a neighbour of (x, y) in one of the directions ds is inside and has the root r.
-fn near_along(
-    w: usize,
-    h: usize,
-    parent: &[u16],
-    rank: &[u8],
-    r: usize,
-    x: usize,
-    y: usize,
-    ds: &[u8],
-) -> bool
-    requires { Within w h x y × Ways ds.now × Forest 200 (w * h) parent.now rank.now }
-    ensures { result ≡ near_along w h parent.now r x y ds.now }
+// Whether the neighbour of a cell in direction d is inside and has the root r.
+#[tactic(auto, using(crate::proofs::Answers::next_in, crate::proofs::Answers::next_out))]
+fn next_rooted(at: Spot, parent: &[u16], rank: &[u8], r: usize, d: u8) -> bool
+    requires { (d < 8) × Forest 200 (at.w * at.h) parent.now rank.now }
+    ensures { result ≡ rooted_of (at.w * at.h) parent.now r (cell_to at.w at.h at.x at.y d) }
 {
-    let n = w * h;
-    let mut k: usize = 0;
-    while k < ds.len() {
-        let d = ds[k];
-        let c = cells::cell_to(w, h, x, y, d);
-        if rooted(parent, rank, n, r, c) {
-            return true;
-        }
-        k += 1;
+    match at.next(d) {
+        Some(c) => r == components::find(parent, rank, at.w * at.h, c),
+        None => false,
     }
-    false
+}
+
+// Whether a neighbour of a cell in one of the directions ds is inside and has the root r.
+fn near_along(at: Spot, parent: &[u16], rank: &[u8], r: usize, ds: &[u8]) -> bool
+    requires { Ways ds.now × Forest 200 (at.w * at.h) parent.now rank.now }
+    ensures { result ≡ near_along at.w at.h parent.now r at.x at.y ds.now }
+{
+    ds.iter().any(|d| next_rooted(at, parent, rank, r, *d))
 }
 
 // Whether some inside neighbour of c, of eight or four, free or not, shares a's component.
-fn near(w: usize, h: usize, diagonal: bool, parent: &[u16], rank: &[u8], a: usize, c: usize) -> bool
-    requires { Sides w h × Forest 200 (w * h) parent.now rank.now × (a < w * h) × (c < w * h) }
-    ensures { result ≡ near_of w h diagonal parent.now a c }
+fn near(size: Size, diagonal: bool, parent: &[u16], rank: &[u8], a: usize, c: usize) -> bool
+    requires { Forest 200 (size.w * size.h) parent.now rank.now × (a < size.w * size.h) × (c < size.w * size.h) }
+    ensures { result ≡ near_of size.w size.h diagonal parent.now a c }
 {
-    let root = components::find(parent, rank, w * h, a);
-    let x = c % w;
-    let y = c / w;
-    if diagonal {
-        let all = [0u8, 1, 2, 3, 4, 5, 6, 7];
-        return near_along(w, h, parent, rank, root, x, y, &all);
-    }
-    let four = [0u8, 2, 4, 6];
-    near_along(w, h, parent, rank, root, x, y, &four)
+    let root = components::find(parent, rank, size.area(), a);
+    near_along(size.cell(c), parent, rank, root, joins::around(diagonal))
 }
 
 // Whether some inside neighbour of the goal c shares the component of the start a. Yes where one is outside.
@@ -101,13 +79,7 @@ pub fn neighbours_reachable(
     ensures { result ≡ neighbours_reachable_of w h diagonal parent.now a c }
 {
     let n = w * h;
-    if n <= a {
-        return true;
-    }
-    if n <= c {
-        return true;
-    }
-    near(w, h, diagonal, parent, rank, a, c)
+    n <= a || n <= c || near(Size { w, h }, diagonal, parent, rank, a, c)
 }
 
 // Whether none does. Yes, too, where one is outside.
@@ -124,11 +96,5 @@ pub fn neighbours_unreachable(
     ensures { result ≡ neighbours_unreachable_of w h diagonal parent.now a c }
 {
     let n = w * h;
-    if n <= a {
-        return true;
-    }
-    if n <= c {
-        return true;
-    }
-    !near(w, h, diagonal, parent, rank, a, c)
+    n <= a || n <= c || !near(Size { w, h }, diagonal, parent, rank, a, c)
 }

@@ -8,7 +8,7 @@ use native.Mathlib.Numerals.{add-one}
 use native.Mathlib.Nat.{mul-le-mul}
 use lib.ListN.{length, get_or}
 use lib.Dec.{eqb}
-use borrow.Author.Tests.{eq-eqb, ne_eqb}
+use borrow.Author.Tests.{eq-eqb}
 use Rattle.components.specs.Components.{Links, Light}
 use Rattle.components.proofs.Weight
 use Rattle.cells.specs.Cells.{Sides}
@@ -75,10 +75,6 @@ columns_none w h diagonal blocked u = refl
 pub cell_free : (w h : ℕ) (diagonal : Bool) (blocked : List ℕ) (x y : ℕ) (u : Links) → get_or blocked (y * w + x) 0 ≡ 0 → joined_to w h blocked x y (ahead diagonal) u ≡ cell_joined w h diagonal blocked x y u
 unfolding cell_joined
 cell_free w h diagonal blocked x y u e = rw (eq-eqb (get_or blocked (y * w + x) 0) 0 e)
-
-pub cell_blocked : (w h : ℕ) (diagonal : Bool) (blocked : List ℕ) (x y : ℕ) (u : Links) → (get_or blocked (y * w + x) 0 ≡ 0 → ⊥) → u ≡ cell_joined w h diagonal blocked x y u
-unfolding cell_joined
-cell_blocked w h diagonal blocked x y u e = rw (ne_eqb (get_or blocked (y * w + x) 0) 0 e)
 
 pub light_as : {m n : ℕ} (p k q l : List ℕ) → q ≡ p → l ≡ k → Light m n p k → Light m n q l
 light_as p k q l e f L = rw (e, f) L

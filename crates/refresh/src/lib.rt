@@ -2,54 +2,49 @@
 #![tactic(auto)]
 
 ghost use Rattle.std.specs.Prelude.{◌≡◌, ◌+◌, ◌*◌, ◌≤◌, ◌<◌, length, get_or, set, eqb, not, cond, ◌&&◌};
-ghost use Rattle.cells.specs.Cells.{Within};
+ghost use Rattle.masks.specs.Masks.{forced_of};
 ghost use Rattle.refresh.specs.Refresh.{with_bit, touched, allowed_of, fixed, fixed_all, masks_after, forced_after};
+
+use cells::Spot;
 
 // Whether an edit blocks a free cell.
 pub fn blocks_free(blocked: &[u8], i: usize, b: bool) -> bool
     requires { i < length blocked.now }
     ensures { result ≡ (b && (eqb (get_or blocked.now i 0) 0)) }
 {
-    if b {
-        return blocked[i] == 0;
-    }
-    false
+    b && blocked[i] == 0
 }
 
 // The mask with its bit d set or cleared.
+#[tactic(auto, using(crate::proofs::Bits::set_is, crate::proofs::Bits::clear_is))]
 fn with_bit(m: u8, d: u8, on: bool) -> u8
     requires { d < 8 }
     ensures { result ≡ with_bit m d on }
 {
-    let i = d as usize;
-    let p = cells::POW[i];
-    let bit = m / p % 2;
-    let off = m - bit * p;
-    if on { off + p } else { off }
+    if on { m | 1 << d } else { m & !(1 << d) }
 }
 
 // One neighbour is told.
-fn touch(w: usize, h: usize, neighbours: &mut [u8], x: usize, y: usize, on: bool, d: u8)
-    requires within { Within w h x y }
+#[tactic(auto, unfolding(crate::specs::Refresh::touched))]
+fn touch(at: Spot, neighbours: &mut [u8], on: bool, d: u8)
     requires d_bound { d < 8 }
-    requires h_in_bounds { w * h ≤ length neighbours.old }
-    ensures { neighbours.new ≡ touched w h neighbours.old x y on d }
+    requires in_bounds { at.w * at.h ≤ length neighbours.old }
+    ensures { neighbours.new ≡ touched at.w at.h neighbours.old at.x at.y on d }
 {
-    let i = cells::cell_to(w, h, x, y, d);
-    if i < w * h {
+    if let Some(i) = at.next(d) {
         let m = neighbours[i];
         stores::store_byte(neighbours, i, with_bit(m, directions::back_of(d), on));
     }
 }
 
 // Every neighbour is told.
-fn touch_all(w: usize, h: usize, neighbours: &mut [u8], x: usize, y: usize, on: bool)
-    requires within { Within w h x y }
-    requires h_in_bounds { w * h ≤ length neighbours.old }
-    ensures { neighbours.new ≡ masks_after w h neighbours.old x y on }
+#[tactic(auto, unfolding(crate::specs::Refresh::masks_after))]
+fn touch_all(at: Spot, neighbours: &mut [u8], on: bool)
+    requires { at.w * at.h ≤ length neighbours.old }
+    ensures { neighbours.new ≡ masks_after at.w at.h neighbours.old at.x at.y on }
 {
     for d in 0..8 {
-        touch(w, h, neighbours, x, y, on, d);
+        touch(at, neighbours, on, d);
     }
 }
 
@@ -57,114 +52,71 @@ fn touch_all(w: usize, h: usize, neighbours: &mut [u8], x: usize, y: usize, on: 
 fn allowed(diagonal: bool, d: u8) -> bool
     ensures { result ≡ allowed_of diagonal d }
 {
-    if diagonal {
-        return true;
-    }
-    d % 2 == 0
+    diagonal || d % 2 == 0
+}
+
+// The forced mask of cell i, worked out again.
+fn fix_cell(neighbours: &[u8], forced: &mut [u8], i: usize)
+    requires in_bounds { (i < length neighbours.now) × (i < length forced.old) }
+    ensures { forced.new ≡ set forced.old i (forced_of (get_or neighbours.now i 0)) }
+{
+    stores::store_byte(forced, i, masks::forced_mask(neighbours[i]));
 }
 
 // The forced mask of one neighbour, worked out again.
-fn fix(
-    w: usize,
-    h: usize,
-    diagonal: bool,
-    neighbours: &[u8],
-    forced: &mut [u8],
-    x: usize,
-    y: usize,
-    d: u8,
-)
-    requires within { Within w h x y }
+#[tactic(auto, unfolding(crate::specs::Refresh::fixed))]
+fn fix(at: Spot, diagonal: bool, neighbours: &[u8], forced: &mut [u8], d: u8)
     requires d_bound { d < 8 }
-    requires h_in_bounds { w * h ≤ length neighbours.now }
-    requires h_in_bounds_2 { w * h ≤ length forced.old }
-    ensures { forced.new ≡ fixed w h diagonal neighbours.now forced.old x y d }
+    requires in_bounds { (at.w * at.h ≤ length neighbours.now) × (at.w * at.h ≤ length forced.old) }
+    ensures { forced.new ≡ fixed at.w at.h diagonal neighbours.now forced.old at.x at.y d }
 {
     if !allowed(diagonal, d) {
         return;
     }
-    let i = cells::cell_to(w, h, x, y, d);
-    if i < w * h {
-        let m = neighbours[i];
-        stores::store_byte(forced, i, masks::forced_mask(m));
+    if let Some(i) = at.next(d) {
+        fix_cell(neighbours, forced, i);
     }
 }
 
 // The forced masks of the cell and of its neighbourhood, worked out again.
-fn fix_all(
-    w: usize,
-    h: usize,
-    diagonal: bool,
-    neighbours: &[u8],
-    forced: &mut [u8],
-    x: usize,
-    y: usize,
-)
-    requires within { Within w h x y }
-    requires h_in_bounds { w * h ≤ length neighbours.now }
-    requires h_in_bounds_2 { w * h ≤ length forced.old }
-    ensures { forced.new ≡ fixed_all w h diagonal neighbours.now forced.old x y }
+#[tactic(auto, unfolding(crate::specs::Refresh::fixed_all))]
+fn fix_all(at: Spot, diagonal: bool, neighbours: &[u8], forced: &mut [u8])
+    requires in_bounds { (at.w * at.h ≤ length neighbours.now) × (at.w * at.h ≤ length forced.old) }
+    ensures { forced.new ≡ fixed_all at.w at.h diagonal neighbours.now forced.old at.x at.y }
 {
-    let i = y * w + x;
-    let m = neighbours[i];
-    stores::store_byte(forced, i, masks::forced_mask(m));
+    fix_cell(neighbours, forced, at.number());
     for d in 0..8 {
-        fix(w, h, diagonal, neighbours, forced, x, y, d);
+        fix(at, diagonal, neighbours, forced, d);
     }
 }
 
 // The masks around an edited cell.
-fn refresh(
-    w: usize,
-    h: usize,
-    diagonal: bool,
-    neighbours: &mut [u8],
-    forced: &mut [u8],
-    x: usize,
-    y: usize,
-    on: bool,
-)
-    requires within { Within w h x y }
-    requires h_in_bounds { w * h ≤ length neighbours.old }
-    requires h_in_bounds_2 { w * h ≤ length forced.old }
-    ensures neighbours_after { neighbours.new ≡ masks_after w h neighbours.old x y on }
-    ensures forced_after { forced.new ≡ forced_after w h diagonal neighbours.old forced.old x y on }
+fn refresh(at: Spot, diagonal: bool, neighbours: &mut [u8], forced: &mut [u8], on: bool)
+    requires in_bounds { (at.w * at.h ≤ length neighbours.old) × (at.w * at.h ≤ length forced.old) }
+    ensures neighbours_after { neighbours.new ≡ masks_after at.w at.h neighbours.old at.x at.y on }
+    ensures forced_after { forced.new ≡ forced_after at.w at.h diagonal neighbours.old forced.old at.x at.y on }
 {
-    touch_all(w, h, neighbours, x, y, on);
-    fix_all(w, h, diagonal, neighbours, forced, x, y);
+    touch_all(at, neighbours, on);
+    fix_all(at, diagonal, neighbours, forced);
 }
 
 // The cell itself and the masks around it, after an edit.
 pub fn edit_cell(
-    w: usize,
-    h: usize,
+    at: Spot,
     diagonal: bool,
     blocked: &mut [u8],
     neighbours: &mut [u8],
     forced: &mut [u8],
-    x: usize,
-    y: usize,
     b: bool,
 )
-    requires within { Within w h x y }
-    requires h_in_bounds { w * h ≤ length blocked.old }
-    requires h_in_bounds_2 { w * h ≤ length neighbours.old }
-    requires h_in_bounds_3 { w * h ≤ length forced.old }
-    ensures blocked_after { blocked.new ≡ set blocked.old (y * w + x) (cond b 1 0) }
-    ensures neighbours_after { neighbours.new ≡ masks_after w h neighbours.old x y (not b) }
-    ensures forced_after { forced.new ≡ forced_after w h diagonal neighbours.old forced.old x y (not b) }
+    requires h_in_bounds { at.w * at.h ≤ length blocked.old }
+    requires h_in_bounds_2 { at.w * at.h ≤ length neighbours.old }
+    requires h_in_bounds_3 { at.w * at.h ≤ length forced.old }
+    ensures blocked_after { blocked.new ≡ set blocked.old (at.y * at.w + at.x) (cond b 1 0) }
+    ensures neighbours_after { neighbours.new ≡ masks_after at.w at.h neighbours.old at.x at.y (not b) }
+    ensures forced_after { forced.new ≡ forced_after at.w at.h diagonal neighbours.old forced.old at.x at.y (not b) }
 {
-    let i = y * w + x;
-    stores::store_byte(blocked, i, blocked_byte(b));
-    refresh(w, h, diagonal, neighbours, forced, x, y, !b);
-}
-
-// A blocked byte is 1, a free one 0.
-fn blocked_byte(b: bool) -> u8
-    ensures { result ≡ cond b 1 0 }
-{
-    if b {
-        return 1;
-    }
-    0
+    let i = at.number();
+    stores::store_byte(blocked, i, u8::from(b));
+    refresh(at, diagonal, neighbours, forced, !b);
 }

@@ -1,76 +1,78 @@
 // The blocks of the list, and what is printed.
-ghost use Rattle.std.specs.Prelude.{◌≡◌, ◌≤◌, length, take};
+ghost use Rattle.std.specs.Prelude.{◌<◌};
 
+use std::io;
 use std::io::Read;
 
-// A block's kind, 0 for none, and how many bytes come after it.
+// What a block is of, by the program of oracle/tools that printed it.
 #[derive(Clone, Copy)]
-pub struct Block {
+pub enum Kind {
+    Ground,
+    Tables,
+    Searches,
+    Paths,
+    Checks,
+    Texts,
+}
+
+// A number that no kind has.
+#[derive(Drop)]
+pub struct Unknown;
+
+impl TryFrom<u8> for Kind {
+    type Error = Unknown;
+
+    fn try_from(number: u8) -> Result<Kind, Unknown> {
+        match number {
+            1 => Ok(Kind::Ground),
+            2 => Ok(Kind::Tables),
+            3 => Ok(Kind::Searches),
+            4 => Ok(Kind::Paths),
+            5 => Ok(Kind::Checks),
+            6 => Ok(Kind::Texts),
+            _ => Err(Unknown),
+        }
+    }
+}
+
+// A block's kind as the list numbers it, and the bytes after it.
+#[derive(Drop)]
+pub struct Block<'a> {
     pub kind: u8,
-    pub count: usize,
+    pub bytes: &'a [u8],
 }
 
-fn none() -> Block
-    ensures { result.count ≡ 0 }
-{
-    Block { kind: 0, count: 0 }
-}
-
-// The length and the kind, with which a block begins. A length of 0, as at the list's end, leaves a count that no buffer has.
-fn head(input: &mut impl Read) -> Block {
+// Reads the next block into the room that is lent. It begins with its length, of which the kind is one byte. None at the list's end, where the kind is 0,
+// and where a block is cut short or longer than the room.
+pub fn next_block<'a>(input: &mut impl Read, room: &'a mut [u8]) -> Option<Block<'a>> {
     let mut bytes = [0u8; 5];
-    prompt::read_full(input, &mut bytes);
-    let read = &bytes[..];
-    Block {
-        kind: lists::u8_at(read, 4),
-        count: (lists::u32_at(read, 0) as usize).wrapping_sub(1),
+    let head = prompt::read_full(input, &mut bytes);
+    let kind = lists::u8_at(head, 4);
+    let n = (lists::u32_at(head, 0) as usize).checked_sub(1)?;
+    if room.len() < n {
+        return None;
     }
-}
-
-// Reads the next block, its bytes after the kind to the front of buf. None at the list's end, and where a block is cut short or is
-// longer than buf.
-pub fn next_block(input: &mut impl Read, buf: &mut [u8]) -> Block
-    ensures within { result.count ≤ length buf.new }
-    ensures front { result.count ≡ length (take result.count buf.new) }
-{
-    let b = head(input);
-    let n = b.count;
-    if buf.len() < n {
-        return none();
+    let bytes = prompt::read_full(input, &mut room[..n]);
+    if bytes.len() < n || kind == 0 {
+        return None;
     }
-    let got = prompt::read_full(input, &mut buf[..n]);
-    if got < n {
-        return none();
+    Some(Block { kind, bytes })
+}
+
+// Writes a name, a number and the line's end to standard output. A write that fails can be told to nobody.
+pub fn say(rt: &impl Print, name: &str, value: u64) {
+    let _ = println!(rt; "{name}{value}");
+}
+
+fn said_counts(rt: &impl Print, names: &str, counts: &[u64]) -> io::Result<()> {
+    print!(rt; "{names}")?;
+    for count in counts {
+        print!(rt; " {count}")?;
     }
-    b
+    println!(rt)
 }
 
-// Writes words on standard output. A write that fails can be told to nobody.
-fn put(rt: &impl Print, words: &[u8]) {
-    let _ = rt.write_all(words);
-}
-
-fn put_number(rt: &impl Print, value: u64) {
-    let _ = rt.print(value);
-}
-
-// Writes a name, a number and the line's end to standard output.
-pub fn say(rt: &impl Print, name: &[u8], value: u64) {
-    put(rt, name);
-    put_number(rt, value);
-    put(rt, b"\n");
-}
-
-fn say_count(rt: &impl Print, counts: [u64; 17], k: usize) {
-    put(rt, b" ");
-    put_number(rt, counts[k % 17]);
-}
-
-// Writes a line of names and the counts from one place to another.
-pub fn say_counts(rt: &impl Print, names: &[u8], counts: [u64; 17], from: usize, to: usize) {
-    put(rt, names);
-    for k in from..to {
-        say_count(rt, counts, k);
-    }
-    put(rt, b"\n");
+// Writes a line of names and their counts. A write that fails can be told to nobody.
+pub fn say_counts(rt: &impl Print, names: &str, counts: &[u64]) {
+    let _ = said_counts(rt, names, counts);
 }

@@ -2,16 +2,8 @@
 ghost use Rattle.std.specs.Prelude.{◌<◌};
 
 use super::tallies;
-use grid::{Change, Grid, Outcome};
-use points::Point;
-
-// No call.
-pub fn kept(g: Grid) -> Change {
-    Change {
-        outcome: Outcome::Done,
-        grid: g,
-    }
-}
+use grid::Grid;
+use points::{Point, Refusal};
 
 // What the tables are before the list tells them.
 pub fn blank(width: usize, height: usize) -> Grid {
@@ -29,22 +21,18 @@ pub fn blank(width: usize, height: usize) -> Grid {
     }
 }
 
-// The grid with one value of a table: 0 blocked, 1 neighbours, 2 forced, 3 parent, 4 rank.
-fn changed(g: Grid, table: u8, cell: usize, value: u32) -> Grid {
-    let mut out = g;
+// Sets one value of a table: 0 blocked, 1 neighbours, 2 forced, 3 parent, 4 rank. A table of bytes takes the lower byte.
+fn put(g: &mut Grid, table: u8, cell: usize, value: u32) {
     let i = cell % 4096;
-    let v = (value % 256) as u8;
+    let byte = (value % 256) as u8;
     match table {
-        0 => out.blocked[i] = v,
-        1 => out.neighbours[i] = v,
-        2 => out.forced[i] = v,
-        3 => out.parent[i] = (value % 65536) as u16,
-        _ => out.rank[i] = v,
+        0 => g.blocked[i] = byte,
+        1 => g.neighbours[i] = byte,
+        2 => g.forced[i] = byte,
+        3 => g.parent[i] = (value % 65536) as u16,
+        _ => g.rank[i] = byte,
     }
-    out
 }
-
-// ---- records of a block: a count of two bytes, with which s begins, and then what each record is
 
 // The kth cell of rows of this width.
 fn cell_point(k: usize, width: usize) -> Point {
@@ -57,14 +45,16 @@ fn cell_point(k: usize, width: usize) -> Point {
     }
 }
 
+// ---- records of a block: a count of two bytes, with which s begins, and then what each record is
+
 // The grid with the cells set whose bits are 1, in turn.
 fn with_bits(g: Grid, diagonal: bool, s: &[u8]) -> Grid {
     let count = lists::u16_at(s, 0) as usize;
     let mut out = g;
     for k in 0..count {
         if lists::u8_at(s, 2 + k / 8) >> ((k % 8) as u32) & 1 == 1 {
-            let c = grid::set(out, diagonal, cell_point(k, out.width), true);
-            out = c.grid;
+            let p = cell_point(k, out.width);
+            let _ = grid::set(&mut out, diagonal, p, true);
         }
     }
     out
@@ -77,7 +67,7 @@ pub fn blocked(s: &[u8], diagonal: bool, at: usize) -> Grid {
 }
 
 // An edit: the cell, and whether it is blocked, a byte each.
-pub fn edit(g: Grid, diagonal: bool, s: &[u8]) -> Change {
+pub fn edit(g: &mut Grid, diagonal: bool, s: &[u8]) -> Result<(), Refusal> {
     grid::set(
         g,
         diagonal,
@@ -86,44 +76,36 @@ pub fn edit(g: Grid, diagonal: bool, s: &[u8]) -> Change {
     )
 }
 
-// A change: the table in a byte, the cell and the value in two bytes each.
-fn with_change(g: Grid, s: &[u8]) -> Grid {
-    let table = lists::u8_at(s, 0);
-    let cell = lists::u16_at(s, 1) as usize;
-    changed(g, table, cell, lists::u16_at(s, 3))
-}
-
-// A value, the kth of them: five to a cell, and six bytes, of which the parent has two. A table of bytes takes the lower byte.
-fn with_value(g: Grid, s: &[u8], k: usize) -> Grid
-    requires { k < 65536 }
-{
-    let cell = k / 5;
-    let table = k % 5;
-    let value = lists::u16_at(s, 2 + 6 * cell + table + table / 4);
-    changed(g, table as u8, cell, value)
-}
-
-// The grid after the kth record of a kind: 0 edits, 1 changes, 2 values.
-fn with_record(kind: u8, g: Grid, diagonal: bool, s: &[u8], k: usize) -> Grid
-    requires { k < 65536 }
-{
-    match kind {
-        0 => {
-            let c = edit(g, diagonal, tallies::rest(s, 2 + 3 * k));
-            c.grid
-        }
-        1 => with_change(g, tallies::rest(s, 2 + 5 * k)),
-        _ => with_value(g, s, k),
-    }
-}
-
-// The grid after the first count records of a kind.
-pub fn with_records(kind: u8, g: Grid, diagonal: bool, s: &[u8], count: usize) -> Grid
-    requires { count < 65536 }
-{
+// The grid after the edits.
+pub fn with_edits(g: Grid, diagonal: bool, s: &[u8]) -> Grid {
     let mut out = g;
-    for k in 0..count {
-        out = with_record(kind, out, diagonal, s, k);
+    for k in 0..lists::u16_at(s, 0) as usize {
+        let _ = edit(&mut out, diagonal, tallies::rest(s, 2 + 3 * k));
+    }
+    out
+}
+
+// The grid after the changes: the table in a byte, the cell and the value in two bytes each.
+pub fn with_changes(g: Grid, s: &[u8]) -> Grid {
+    let mut out = g;
+    for k in 0..lists::u16_at(s, 0) as usize {
+        let r = tallies::rest(s, 2 + 5 * k);
+        let cell = lists::u16_at(r, 1) as usize;
+        put(&mut out, lists::u8_at(r, 0), cell, lists::u16_at(r, 3));
+    }
+    out
+}
+
+// The grid with every value of its first cells: six bytes to a cell, of which the parent has two.
+pub fn with_values(g: Grid, s: &[u8]) -> Grid {
+    let mut out = g;
+    for cell in 0..tallies::count_at(s, 0, 4096) {
+        let r = tallies::rest(s, 2 + 6 * cell);
+        put(&mut out, 0, cell, lists::u16_at(r, 0));
+        put(&mut out, 1, cell, lists::u16_at(r, 1));
+        put(&mut out, 2, cell, lists::u16_at(r, 2));
+        put(&mut out, 3, cell, lists::u16_at(r, 3));
+        put(&mut out, 4, cell, lists::u16_at(r, 5));
     }
     out
 }

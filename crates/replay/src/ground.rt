@@ -1,79 +1,134 @@
 // Blocks of masks, directions and distances. Their form stands at the head of oracle/tools/src/bin/ground.rs.
 ghost use Rattle.std.specs.Prelude.{◌<◌, ◌≤◌};
 
+use super::blocks::Unknown;
 use super::tallies;
-use super::tallies::Tally;
-use bends::Heading;
-use costs::Measure;
-use points::{Direction, Parts, Point, Told};
+use super::tallies::{Place, Tally};
+use points::{Direction, Point, Refusal};
 
 const REFUSED: u32 = 2147483648;
 
-// The bytes of a record, or 0 for a kind that the list does not have.
-fn width_of(kind: u8) -> usize
-    ensures { result ≤ 28 }
-{
-    match kind {
-        1 => 1,
-        2 => 1,
-        3 => 1,
-        4 => 6,
-        5 => 2,
-        6 => 20,
-        7 => 24,
-        8 => 28,
-        _ => 0,
+// What the records of a block are: masks, with diagonals and without, and what is asked of directions and of two points.
+#[derive(Clone, Copy)]
+enum Kind {
+    Forced,
+    Pruned,
+    PrunedStraight,
+    Compass,
+    Turns,
+    Headings,
+    Distances,
+    Scaled,
+}
+
+impl TryFrom<u8> for Kind {
+    type Error = Unknown;
+
+    fn try_from(number: u8) -> Result<Kind, Unknown> {
+        match number {
+            1 => Ok(Kind::Forced),
+            2 => Ok(Kind::Pruned),
+            3 => Ok(Kind::PrunedStraight),
+            4 => Ok(Kind::Compass),
+            5 => Ok(Kind::Turns),
+            6 => Ok(Kind::Headings),
+            7 => Ok(Kind::Distances),
+            8 => Ok(Kind::Scaled),
+            _ => Err(Unknown),
+        }
+    }
+}
+
+impl Kind {
+    fn place(self) -> Place {
+        match self {
+            Kind::Forced => Place::Forced,
+            Kind::Pruned => Place::Pruned,
+            Kind::PrunedStraight => Place::PrunedStraight,
+            Kind::Compass => Place::Compass,
+            Kind::Turns => Place::Turns,
+            Kind::Headings => Place::Headings,
+            Kind::Distances => Place::Distances,
+            Kind::Scaled => Place::Scaled,
+        }
+    }
+
+    // The bytes of a record.
+    fn width(self) -> usize
+        ensures { 0 < result }
+    {
+        match self {
+            Kind::Forced | Kind::Pruned | Kind::PrunedStraight => 1,
+            Kind::Compass => 6,
+            Kind::Turns => 2,
+            Kind::Headings => 20,
+            Kind::Distances => 24,
+            Kind::Scaled => 28,
+        }
+    }
+
+    // Whether the kth record of a block has another answer.
+    fn wrong(self, k: usize, r: &[u8]) -> bool {
+        match self {
+            Kind::Forced => lists::u8_at(r, 0) != masks::forced_mask((k % 256) as u8),
+            Kind::Pruned => pruned_wrong(true, k, r),
+            Kind::PrunedStraight => pruned_wrong(false, k, r),
+            Kind::Compass => direction_wrong(k, r),
+            Kind::Turns => turns_wrong(k, r),
+            Kind::Headings => heading_wrong(r),
+            Kind::Distances => distance_wrong(true, r, 16) || distance_wrong(false, r, 20),
+            Kind::Scaled => scaled_wrong(true, r, 20) || scaled_wrong(false, r, 24),
+        }
     }
 }
 
 // ---- a record of each kind
 
-fn forced_wrong(k: usize, r: &[u8]) -> u64 {
-    tallies::byte_wrong(masks::forced_mask((k % 256) as u8), r, 0)
-}
-
-fn pruned_wrong(diagonal: bool, k: usize, r: &[u8]) -> u64 {
+fn pruned_wrong(diagonal: bool, k: usize, r: &[u8]) -> bool {
     let d = (k / 256 % 8) as u8;
-    tallies::byte_wrong(masks::pruned_mask(diagonal, d, (k % 256) as u8), r, 0)
+    lists::u8_at(r, 0) != masks::pruned_mask(diagonal, d, (k % 256) as u8)
 }
 
-fn cardinals_wrong(x: u8, y: u8, r: &[u8]) -> u64 {
-    tallies::byte_wrong(x, r, 4) | tallies::byte_wrong(y, r, 5)
-}
-
-fn parts_wrong(d: Direction, r: &[u8]) -> u64 {
-    let p = d.split();
-    match p {
-        Parts::Pair(x, y) => cardinals_wrong(x.number, y.number, r),
-        Parts::Whole => cardinals_wrong(255, 255, r),
+// A diagonal's cardinals along x and y; 255 for those of a cardinal.
+fn cardinals(d: Direction) -> (u8, u8) {
+    match d.split() {
+        Some((x, y)) => (x.number, y.number),
+        None => (255, 255),
     }
 }
 
 // The offsets, the opposite, whether it is a diagonal, and the cardinals.
-fn compass_wrong(n: u8, r: &[u8]) -> u64 {
+fn compass_wrong(n: u8, r: &[u8]) -> bool {
     let d = Direction { number: n };
     let o = d.opposite();
-    tallies::byte_wrong(directions::off_x(n) as u8, r, 0)
-        | tallies::byte_wrong(directions::off_y(n) as u8, r, 1)
-        | tallies::byte_wrong(o.number, r, 2)
-        | tallies::byte_wrong(d.diagonal() as u8, r, 3)
-        | parts_wrong(d, r)
+    let (x, y) = cardinals(d);
+    let told = [
+        directions::off_x(n) as u8,
+        directions::off_y(n) as u8,
+        o.number,
+        u8::from(d.diagonal()),
+        x,
+        y,
+    ];
+    told.iter()
+        .enumerate()
+        .any(|(i, v)| lists::u8_at(r, i) != *v)
 }
 
 // A number is read modulo 8.
-fn direction_wrong(k: usize, r: &[u8]) -> u64 {
+fn direction_wrong(k: usize, r: &[u8]) -> bool {
     let n = (k % 8) as u8;
-    compass_wrong(n, r) | compass_wrong(n + 248, r)
+    compass_wrong(n, r) || compass_wrong(n + 248, r)
 }
 
-fn turns_wrong(k: usize, r: &[u8]) -> u64 {
+fn turns_wrong(k: usize, r: &[u8]) -> bool {
     let d = Direction {
         number: (k / 8 % 8) as u8,
     };
     let eighths = (k % 8) as u8;
     let cw = d.rotate_cw(eighths);
     let ccw = d.rotate_ccw(eighths);
-    tallies::byte_wrong(cw.number, r, 0) | tallies::byte_wrong(ccw.number, r, 1)
+    (cw.number, ccw.number) != (lists::u8_at(r, 0), lists::u8_at(r, 1))
 }
 
 fn far_point(r: &[u8], at: usize) -> Point
@@ -85,109 +140,75 @@ fn far_point(r: &[u8], at: usize) -> Point
     }
 }
 
-// Which of two points a refusal carries: 1 the first, 2 the second, 3 neither.
-fn which(p: Point, a: Point, b: Point) -> u32
+// Which of two points a refusal carries: 1 the first, 2 the second, 3 neither; 0 for one that carries no point.
+fn carried(r: Refusal, a: Point, b: Point) -> u32
     ensures { result ≤ 3 }
 {
-    if tallies::equal(p, a) {
-        return 1;
-    }
-    if tallies::equal(p, b) {
-        return 2;
-    }
-    3
-}
-
-// The same of a refusal; 0 for one that carries no point.
-fn carried(t: Told, a: Point, b: Point) -> u32
-    ensures { result ≤ 3 }
-{
-    let number = t.number;
-    match number {
-        11 => which(t.point, a, b),
-        14 => which(t.point, a, b),
-        _ => 0,
+    let (Refusal::Same(p) | Refusal::BadPoint(p)) = r else {
+        return 0;
+    };
+    if p == a {
+        1
+    } else if p == b {
+        2
+    } else {
+        3
     }
 }
 
 // A refusal as the list has it.
-fn refused(t: Told, a: Point, b: Point) -> u32 {
-    REFUSED + t.number as u32 + 256 * carried(t, a, b)
+fn refused(r: Refusal, a: Point, b: Point) -> u32 {
+    REFUSED + u32::from(r.number()) + 256 * carried(r, a, b)
 }
 
 // A direction as the list has it: the number that hosts are told, or a refusal.
 fn heading(a: Point, b: Point) -> u64 {
-    let h = headings::direction_to(a, b);
-    match h {
-        Heading::Refused(r) => refused(r.told(), a, b) as u64,
-        _ => packing::direction(a, b),
+    match headings::direction_to(a, b) {
+        Ok(_) => packing::direction(a, b),
+        Err(r) => u64::from(refused(r, a, b)),
     }
 }
 
-pub fn measured(m: Measure, a: Point, b: Point) -> u32 {
-    match m {
-        Measure::Cost(c) => c,
-        Measure::Refused(r) => refused(r.told(), a, b),
-    }
+// A distance as the list has it: the cost, or a refusal.
+pub fn measured(m: Result<u32, Refusal>, a: Point, b: Point) -> u32 {
+    m.unwrap_or_else(|r| refused(r, a, b))
 }
 
-fn heading_wrong(r: &[u8]) -> u64 {
-    let asked = heading(far_point(r, 0), far_point(r, 8));
-    tallies::unequal(asked, lists::u32_at(r, 16) as u64)
+fn heading_wrong(r: &[u8]) -> bool {
+    heading(far_point(r, 0), far_point(r, 8)) != u64::from(lists::u32_at(r, 16))
 }
 
-// The distance between two points, or with a kind of 8 the scaled one, against the number at a place.
-fn distance_wrong(kind: u8, diagonal: bool, r: &[u8], at: usize) -> u64 {
+// The distance between two points, against the number at a place.
+fn distance_wrong(diagonal: bool, r: &[u8], at: usize) -> bool {
     let a = far_point(r, 0);
     let b = far_point(r, 8);
-    let m = if kind == 8 {
-        costs::scaled_distance(diagonal, lists::f32_at(r, 16), a, b)
-    } else {
-        costs::distance(diagonal, a, b)
-    };
-    (measured(m, a, b) != lists::u32_at(r, at)) as u64
+    measured(costs::distance(diagonal, a, b), a, b) != lists::u32_at(r, at)
 }
 
-fn wrong(kind: u8, k: usize, r: &[u8]) -> u64 {
-    match kind {
-        1 => forced_wrong(k, r),
-        2 => pruned_wrong(true, k, r),
-        3 => pruned_wrong(false, k, r),
-        4 => direction_wrong(k, r),
-        5 => turns_wrong(k, r),
-        6 => heading_wrong(r),
-        7 => distance_wrong(7, true, r, 16) | distance_wrong(7, false, r, 20),
-        _ => distance_wrong(8, true, r, 20) | distance_wrong(8, false, r, 24),
-    }
+// The same of the scaled distance.
+fn scaled_wrong(diagonal: bool, r: &[u8], at: usize) -> bool {
+    let a = far_point(r, 0);
+    let b = far_point(r, 8);
+    let m = costs::scaled_distance(diagonal, lists::f32_at(r, 16), a, b);
+    measured(m, a, b) != lists::u32_at(r, at)
 }
 
 // ---- blocks
 
-// Every record of a block.
-fn compare(kind: u8, width: usize, s: &[u8]) -> Tally
-    requires { (0 < width) × (width ≤ 28) }
-{
-    let mut at: usize = 1;
-    let mut k: usize = 0;
-    let mut differ: u64 = 0;
-    while at < s.len() {
-        differ = differ.wrapping_add(wrong(kind, k, &s[at..]));
-        at += width;
-        k += 1;
-    }
-    Tally {
-        place: kind as usize,
-        count: k as u64,
-        wrong: differ,
-    }
-}
-
-// A block of a kind, 1 to 8; one of another kind is a difference.
+// A block of a kind; one of a kind that the list does not have is a difference.
 pub fn replay(s: &[u8]) -> Tally {
-    let kind = lists::u8_at(s, 0);
-    let width = width_of(kind);
-    if width == 0 {
-        return tallies::one(0, 1);
+    let Ok(kind) = Kind::try_from(lists::u8_at(s, 0)) else {
+        return Tally::one(Place::Unknown, 1);
+    };
+    let records = tallies::rest(s, 1);
+    let wrong = records
+        .chunks(kind.width())
+        .enumerate()
+        .filter(|(k, r)| kind.wrong(*k, *r))
+        .count();
+    Tally {
+        place: kind.place(),
+        count: records.len().div_ceil(kind.width()) as u64,
+        wrong: wrong as u64,
     }
-    compare(kind, width, s)
 }

@@ -15,12 +15,13 @@ mod texts;
 mod verdicts; // route checks
 mod walks; // paths
 
+use blocks::{Block, Kind};
 use grid::Grid;
 use std::io::Read;
-use tallies::Tally;
+use tallies::{Place, Tally};
 
 // The grid in hand, its flag, what was counted of each kind of answer, and the differences.
-#[derive(Clone, Copy)]
+#[derive(Drop)]
 struct Run {
     grid: Grid,
     diagonal: bool,
@@ -28,112 +29,104 @@ struct Run {
     wrong: u64,
 }
 
-// Says of a block that it has differences.
-fn show(rt: &impl Print, y: Tally, before: u64) {
-    if y.wrong != 0 {
-        blocks::say(rt, b"differences of a block: ", y.wrong);
-        blocks::say(rt, b"  the place of its count: ", y.place as u64);
-        blocks::say(rt, b"  the count before it: ", before);
-    }
-}
-
-fn added(rt: &impl Print, run: Run, y: Tally) -> Run {
-    let mut next = run;
-    let i = y.place % 17;
-    let before = next.counts[i];
-    show(rt, y, before);
-    next.counts[i] = before.wrapping_add(y.count);
-    next.wrong = next.wrong.wrapping_add(y.wrong);
-    next
-}
-
-// A step of the tables: what it makes of the grid in hand, and its questions.
-fn stepped(rt: &impl Print, run: Run, s: &[u8]) -> Run {
-    let diagonal = table_steps::turned(s, run.diagonal);
-    let change = table_steps::call(s, run.grid, diagonal);
-    let g = change.grid;
-    let mut next = added(rt, run, table_steps::compare(s, run.grid, change));
-    next.grid = g;
-    next.diagonal = diagonal;
-    let cells = table_steps::after_changes(s);
-    let asked = added(rt, next, table_steps::asked(g, diagonal, 10, 10, cells));
-    let reaches = table_steps::after_cells(cells);
-    added(rt, asked, table_steps::asked(g, diagonal, 11, 9, reaches))
-}
-
-// A grid, which is then the one in hand.
-fn gridded(rt: &impl Print, run: Run, g: Grid) -> Run {
-    let mut next = added(rt, run, tallies::one(12, 0));
-    next.grid = g;
-    next
-}
-
-// A grid by calls or by its tables, or a search on the one in hand.
-fn searched(rt: &impl Print, run: Run, s: &[u8]) -> Run {
-    let kind = lists::u8_at(s, 0);
-    match kind {
-        0 => gridded(rt, run, searches::by_calls(s)),
-        1 => gridded(rt, run, searches::by_tables(s)),
-        _ => added(rt, run, tallies::one(13, searches::replay(s, run.grid))),
-    }
-}
-
-// A block of a kind that asks nothing of the grid in hand.
-fn alone(kind: u8, s: &[u8]) -> Tally {
-    match kind {
-        1 => ground::replay(s),
-        4 => tallies::one(14, walks::replay(s)),
-        5 => tallies::one(15, verdicts::replay(s)),
-        6 => tallies::one(16, texts::replay(s)),
-        _ => tallies::one(0, 1),
-    }
-}
-
-fn one_block(rt: &impl Print, run: Run, kind: u8, s: &[u8]) -> Run {
-    match kind {
-        2 => stepped(rt, run, s),
-        3 => searched(rt, run, s),
-        _ => added(rt, run, alone(kind, s)),
-    }
-}
-
-// Every block. Nothing says that a list ends, so the turns are counted.
-fn every_block(rt: &impl Print, input: &mut impl Read) -> Run {
-    let mut run = Run {
-        grid: grids::blank(1, 1),
-        diagonal: true,
-        counts: [0; 17],
-        wrong: 0,
-    };
-    for _ in 0..1000000000usize {
-        let mut buf = [0u8; 65536];
-        let b = blocks::next_block(input, &mut buf);
-        let n = b.count;
-        if b.kind == 0 {
-            return run;
+impl Run {
+    fn new() -> Run {
+        Run {
+            grid: grids::blank(1, 1),
+            diagonal: true,
+            counts: [0; 17],
+            wrong: 0,
         }
-        run = one_block(rt, run, b.kind, &buf[..n]);
     }
-    run
-}
 
-fn tell(rt: &impl Print, run: Run) {
-    let counts = run.counts;
-    blocks::say_counts(
-        rt,
-        b"masks (forced, pruned, without diagonals), directions, turns, headings, distances, scaled:",
-        counts,
-        1,
-        9,
-    );
-    blocks::say_counts(rt, b"steps, cells asked, questions asked:", counts, 9, 12);
-    blocks::say_counts(rt, b"grids, searches:", counts, 12, 14);
-    blocks::say_counts(rt, b"paths, checks, texts:", counts, 14, 17);
-    blocks::say(rt, b"differences=", run.wrong);
+    // Counts answers, and says of those that differ where they stand.
+    fn add(&mut self, rt: &impl Print, y: Tally) {
+        let i = y.place as usize;
+        let before = self.counts[i];
+        if y.wrong != 0 {
+            blocks::say(rt, "differences of a block: ", y.wrong);
+            blocks::say(rt, "  the place of its count: ", i as u64);
+            blocks::say(rt, "  the count before it: ", before);
+        }
+        self.counts[i] = before.wrapping_add(y.count);
+        self.wrong = self.wrong.wrapping_add(y.wrong);
+    }
+
+    // A step of the tables: what it makes of the grid in hand, and its questions.
+    fn step(&mut self, rt: &impl Print, s: &[u8]) {
+        let diagonal = table_steps::turned(s, self.diagonal);
+        let mut g = self.grid;
+        let outcome = table_steps::call(s, &mut g, diagonal);
+        self.add(rt, table_steps::compare(s, self.grid, outcome, g));
+        self.grid = g;
+        self.diagonal = diagonal;
+        self.add(rt, table_steps::cells_asked(g, diagonal, s));
+        self.add(rt, table_steps::reaches_asked(g, diagonal, s));
+    }
+
+    // A grid, which is then the one in hand.
+    fn take(&mut self, rt: &impl Print, g: Grid) {
+        self.grid = g;
+        self.add(rt, Tally::one(Place::Grids, 0));
+    }
+
+    // A grid by calls or by its tables, or a search on the one in hand.
+    fn search(&mut self, rt: &impl Print, s: &[u8]) {
+        match lists::u8_at(s, 0) {
+            0 => self.take(rt, searches::by_calls(s)),
+            1 => self.take(rt, searches::by_tables(s)),
+            _ => self.add(
+                rt,
+                Tally::one(Place::Searches, searches::replay(s, self.grid)),
+            ),
+        }
+    }
+
+    // A block; one of a kind that the list does not have is a difference.
+    fn replay(&mut self, rt: &impl Print, block: Block) {
+        let s = block.bytes;
+        match Kind::try_from(block.kind) {
+            Ok(Kind::Ground) => self.add(rt, ground::replay(s)),
+            Ok(Kind::Tables) => self.step(rt, s),
+            Ok(Kind::Searches) => self.search(rt, s),
+            Ok(Kind::Paths) => self.add(rt, Tally::one(Place::Paths, walks::replay(s))),
+            Ok(Kind::Checks) => self.add(rt, Tally::one(Place::Checks, verdicts::replay(s))),
+            Ok(Kind::Texts) => self.add(rt, Tally::one(Place::Texts, texts::replay(s))),
+            Err(_) => self.add(rt, Tally::one(Place::Unknown, 1)),
+        }
+    }
+
+    // Every block. Nothing says that a list ends, so the turns are counted.
+    fn replay_all(&mut self, rt: &impl Print, input: &mut impl Read) {
+        let mut room = [0u8; 65536];
+        for _ in 0..1000000000usize {
+            let Some(block) = blocks::next_block(input, &mut room) else {
+                return;
+            };
+            self.replay(rt, block);
+        }
+    }
+
+    fn tell(&self, rt: &impl Print) {
+        blocks::say_counts(
+            rt,
+            "masks (forced, pruned, without diagonals), directions, turns, headings, distances, scaled:",
+            &self.counts[1..9],
+        );
+        blocks::say_counts(
+            rt,
+            "steps, cells asked, questions asked:",
+            &self.counts[9..12],
+        );
+        blocks::say_counts(rt, "grids, searches:", &self.counts[12..14]);
+        blocks::say_counts(rt, "paths, checks, texts:", &self.counts[14..17]);
+        blocks::say(rt, "differences=", self.wrong);
+    }
 }
 
 fn main(rt: HostRuntime) {
     run_examples::run(&rt);
-    let run = every_block(&rt, &mut rt.stdin());
-    tell(&rt, run);
+    let mut run = Run::new();
+    run.replay_all(&rt, &mut rt.stdin());
+    run.tell(&rt);
 }

@@ -1,40 +1,49 @@
 // Blocks of grids and of searches on them. Their form stands at the head of oracle/tools/src/bin/searches.rs.
-ghost use Rattle.std.specs.Prelude.{◌≡◌, length};
-
 use super::{grids, tallies};
 use costs::Settings;
-use finder::{Answer, Outcome};
+use finder::{Answer, Found};
 use grid::Grid;
-use points::Point;
+use points::{Point, Refusal};
 
 // ---- grids
 
-// The cells, perhaps rebuilt.
-fn first(s: &[u8], diagonal: bool, again: bool) -> Grid {
-    let g = grids::blocked(s, diagonal, 4);
-    if again {
-        let c = grid::generate_components(g, diagonal);
-        return c.grid;
-    }
-    g
-}
-
+// The cells, perhaps rebuilt, and edited then.
 pub fn by_calls(s: &[u8]) -> Grid {
     let diagonal = lists::u8_at(s, 3) == 1;
     let at = 6 + (lists::u16_at(s, 4) as usize + 7) / 8;
-    let g = first(s, diagonal, lists::u8_at(s, at) == 1);
-    let edits = tallies::rest(s, at + 1);
-    grids::with_records(0, g, diagonal, edits, lists::u16_at(edits, 0) as usize)
+    let mut g = grids::blocked(s, diagonal, 4);
+    if lists::u8_at(s, at) == 1 {
+        let _ = grid::generate_components(&mut g, diagonal);
+    }
+    grids::with_edits(g, diagonal, tallies::rest(s, at + 1))
 }
 
 pub fn by_tables(s: &[u8]) -> Grid {
     let mut g = grids::blank(lists::u16_at(s, 1) as usize, lists::u16_at(s, 3) as usize);
     g.dirty = lists::u8_at(s, 5) == 1;
-    let count = 5 * tallies::count_at(s, 6, 4096);
-    grids::with_records(2, g, true, tallies::rest(s, 6), count)
+    grids::with_values(g, tallies::rest(s, 6))
 }
 
 // ---- searches
+
+// What a search is: to one goal, exact or to a cell beside it, or to several goals.
+#[derive(Clone, Copy)]
+pub enum Kind {
+    Exact,
+    Approximate,
+    Several,
+}
+
+// A number that no other kind has is an exact search's.
+impl From<u8> for Kind {
+    fn from(number: u8) -> Kind {
+        match number {
+            1 => Kind::Approximate,
+            2 => Kind::Several,
+            _ => Kind::Exact,
+        }
+    }
+}
 
 fn settings(s: &[u8]) -> Settings {
     Settings {
@@ -47,9 +56,9 @@ fn settings(s: &[u8]) -> Settings {
     }
 }
 
-// A search of a kind: 0 to one goal, 1 to a cell beside it, 2 to several goals. The working room holds numbers of no meaning.
+// A search of a kind. The working room holds numbers of no meaning.
 pub fn search(
-    kind: u8,
+    kind: Kind,
     g: Grid,
     s: Settings,
     start: Point,
@@ -63,21 +72,25 @@ pub fn search(
     let mut cost = [7u64; 4097];
     let mut keys = [7u64; 8192];
     let mut idx = [7u32; 8192];
-    if kind == 2 {
-        return waypoints::get_waypoints_multiple_goals(
-            &mut number,
-            &mut place,
-            &mut parent,
-            &mut cost,
-            &mut keys,
-            &mut idx,
-            goals,
-            out,
-            g,
-            s,
-            start,
-        );
-    }
+    let approximate = match kind {
+        Kind::Exact => false,
+        Kind::Approximate => true,
+        Kind::Several => {
+            return waypoints::get_waypoints_multiple_goals(
+                &mut number,
+                &mut place,
+                &mut parent,
+                &mut cost,
+                &mut keys,
+                &mut idx,
+                goals,
+                out,
+                g,
+                s,
+                start,
+            );
+        }
+    };
     waypoints::get_waypoints_single_goal(
         &mut number,
         &mut place,
@@ -90,51 +103,43 @@ pub fn search(
         s,
         start,
         goal,
-        kind == 1,
+        approximate,
     )
 }
 
-// 0 where result, waypoints and cost are those that s begins with, else 1.
-fn outcome_wrong(o: Outcome, s: &[u8]) -> u64 {
+// Whether s begins with another result, other waypoints or another cost.
+fn outcome_wrong(o: Result<Found, Refusal>, s: &[u8]) -> bool {
     match o {
-        Outcome::Found(n, cost) => {
-            tallies::byte_wrong(0, s, 0)
-                | tallies::unequal(n as u64, lists::u16_at(s, 13) as u64)
-                | tallies::unequal(cost, lists::u32_at(s, 9) as u64)
+        Ok(found) => {
+            lists::u8_at(s, 0) != 0
+                || found.length != lists::u16_at(s, 13) as usize
+                || found.cost != u64::from(lists::u32_at(s, 9))
         }
-        Outcome::Refused(r) => tallies::refused_wrong(r, s),
+        Err(r) => tallies::refused_wrong(r, s),
     }
 }
 
 // 1 where the answer, or its pops, differs from the one that s begins with, and 1 for each place of the output that does.
 fn compared(a: Answer, s: &[u8], out: &[i32]) -> u64 {
-    let o = a.outcome;
-    let pops = tallies::unequal(a.pops as u64, lists::u32_at(s, 5) as u64);
-    let unlike = tallies::unlike(tallies::rest(s, 13), out);
-    (pops | outcome_wrong(o, s)).wrapping_add(unlike)
-}
-
-fn untouched() -> [i32; 8200]
-    ensures { 8200 ≡ length result }
-{
-    [tallies::UNTOUCHED; 8200]
+    let wrong = a.pops != lists::u32_at(s, 5) as usize || outcome_wrong(a.outcome, s);
+    tallies::unlike_points(tallies::rest(s, 13), out).wrapping_add(u64::from(wrong))
 }
 
 // The search that the block asks for, with the goals' numbers lent and as much of the output as the list says.
 pub fn replay(s: &[u8], g: Grid) -> u64 {
     let room = tallies::room_at(s, 20, 4097);
     let count = tallies::count_at(s, 28, 200);
-    let goals = tallies::numbers(tallies::rest(s, 28), count);
-    let mut out = untouched();
-    let end = 2 * room;
+    let mut numbers = [0i32; 200];
+    let goals = tallies::numbers(tallies::rest(s, 28), count, &mut numbers);
+    let mut out = tallies::untouched::<8200>();
     let a = search(
-        lists::u8_at(s, 1),
+        Kind::from(lists::u8_at(s, 1)),
         g,
         settings(s),
         tallies::point_at(s, 24),
         tallies::point_at(s, 30),
-        &goals[..count],
-        &mut out[..end],
+        goals,
+        &mut out[..2 * room],
     );
     compared(a, tallies::rest(s, 30 + 2 * count), &out)
 }

@@ -2,36 +2,36 @@
 use super::{grids, tallies};
 use checks::Checked;
 use grid::Grid;
-use legs::Bend;
+use points::Refusal;
 
-// 0 where the first bent leg is the one that s names.
-fn leg_wrong(b: Bend, s: &[u8]) -> u64 {
-    tallies::unequal(b.number() as u64, lists::u8_at(s, 6) as u64)
-}
-
-// 0 where the answer is the one that s begins with: its result, the point that POINT carries, 1 if clear, and the first bent leg or 0.
-fn differs(c: Checked, s: &[u8]) -> u64 {
+// Whether s begins with another answer: its result, the point that POINT carries, 1 if clear, and the first bent leg or 0.
+fn differs(c: Result<Checked, Refusal>, s: &[u8]) -> bool {
+    let clear = lists::u8_at(s, 5);
+    let bent = lists::u8_at(s, 6) as usize;
     match c {
-        Checked::Judged(clear, b) => {
-            tallies::byte_wrong(0, s, 0) | tallies::byte_wrong(clear as u8, s, 5) | leg_wrong(b, s)
+        Ok(checked) => {
+            lists::u8_at(s, 0) != 0
+                || clear != u8::from(checked.clear)
+                || bent != checked.bent.unwrap_or(0)
         }
-        Checked::Refused(r) => {
-            tallies::refused_wrong(r, s) | tallies::byte_wrong(0, s, 5) | leg_wrong(Bend::None, s)
-        }
+        Err(r) => { tallies::refused_wrong(r, s) || clear != 0 || bent != 0 }
     }
 }
 
 // The waypoints and the answer, with which s begins.
-fn judged(g: Grid, s: &[u8]) -> u64 {
+fn judged(g: Grid, s: &[u8]) -> bool {
     let count = tallies::count_at(s, 0, 64);
-    let list = tallies::numbers(s, count);
-    let c = checks::check_route(g, &list[..count]);
-    differs(c, tallies::rest(s, 2 + 2 * count))
+    let mut numbers = [0i32; 200];
+    let list = tallies::numbers(s, count, &mut numbers);
+    differs(
+        checks::check_route(g, list),
+        tallies::rest(s, 2 + 2 * count),
+    )
 }
 
 // The check reads no table but that of the blocked cells.
 pub fn replay(s: &[u8]) -> u64 {
     let cells = tallies::count_at(s, 3, 4096);
     let g = grids::blocked(s, true, 3);
-    judged(g, tallies::rest(s, 5 + (cells + 7) / 8))
+    u64::from(judged(g, tallies::rest(s, 5 + (cells + 7) / 8)))
 }

@@ -6,8 +6,7 @@ ghost use Rattle.points.specs.Refusals.{told_of};
 ghost use Rattle.replies.specs.Replies.{route_of, value_reply, told_reply, written_reply, check_reply};
 
 use checks::Checked;
-use finder::{Answer, Outcome};
-use paths::Written;
+use finder::Answer;
 use points::Refusal;
 
 // What a search answers, as numbers: its refusal or 0, its pops, how many waypoints were written, the cost at the goal's pop, and the point that a refusal concerns.
@@ -27,21 +26,19 @@ pub fn routed(a: Answer) -> Route
     ensures { result ≡ route_of a }
 {
     let pops = a.pops as u64;
-    let o = a.outcome;
-    match o {
-        Outcome::Found(n, k) => Route {
+    match a.outcome {
+        Ok(found) => Route {
             refusal: 0,
             pops,
-            waypoints: n as u64,
-            cost: k,
+            waypoints: found.length as u64,
+            cost: found.cost,
             x: 0,
             y: 0,
         },
-        Outcome::Refused(w) => {
-            let t = w.told();
-            let q = t.point;
+        Err(w) => {
+            let q = w.point();
             Route {
-                refusal: t.number as u64,
+                refusal: u64::from(w.number()),
                 pops,
                 waypoints: 0,
                 cost: 0,
@@ -78,10 +75,9 @@ fn value(n: u64) -> Reply
 fn refused(w: Refusal) -> Reply
     ensures { result ≡ told_reply (told_of w) }
 {
-    let t = w.told();
-    let q = t.point;
+    let q = w.point();
     Reply {
-        refusal: t.number as u64,
+        refusal: u64::from(w.number()),
         value: 0,
         x: q.x,
         y: q.y,
@@ -89,12 +85,12 @@ fn refused(w: Refusal) -> Reply
 }
 
 // How many points were written, or a refusal.
-pub fn written(w: Written) -> Reply
+pub fn written(w: Result<usize, Refusal>) -> Reply
     ensures { result ≡ written_reply w }
 {
     match w {
-        Written::Points(n) => value(n as u64),
-        Written::Refused(r) => refused(r),
+        Ok(n) => value(n as u64),
+        Err(r) => refused(r),
     }
 }
 
@@ -110,22 +106,21 @@ pub struct Check {
 }
 
 // The route check's answer as numbers.
-pub fn checked(c: Checked) -> Check
+pub fn checked(c: Result<Checked, Refusal>) -> Check
     ensures { result ≡ check_reply c }
 {
     match c {
-        Checked::Judged(clear, bend) => Check {
+        Ok(checked) => Check {
             refusal: 0,
-            clear: packing::mark(clear),
-            bent: bend.number() as u64,
+            clear: packing::mark(checked.clear),
+            bent: checked.bent.unwrap_or(0) as u64,
             x: 0,
             y: 0,
         },
-        Checked::Refused(w) => {
-            let t = w.told();
-            let q = t.point;
+        Err(w) => {
+            let q = w.point();
             Check {
-                refusal: t.number as u64,
+                refusal: u64::from(w.number()),
                 clear: 0,
                 bent: 0,
                 x: q.x,

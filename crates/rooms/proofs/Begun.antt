@@ -11,6 +11,7 @@ use Rattle.fringe.specs.Fringe.{push}
 use Rattle.keys.specs.Keys.{key_of}
 use Rattle.nodes.specs.Nodes.{Nodes, Note, Able, nodes, note_of}
 use Rattle.offers.specs.Search.{state, Sides, area_of, none, begin}
+use Rattle.offers.specs.declared.Work.{Work}
 use Rattle.offers.proofs.Laws.{area_low}
 use Rattle.offers.proofs.Start.{zeros}
 use Rattle.rooms.specs.Rooms.{Room}
@@ -19,12 +20,12 @@ pub nodes_none : (n : ℕ) (number place parent cost : List ℕ) → number ≡ 
 unfolding none
 nodes_none n number place parent cost e = rw e
 
-pub able_start : (p : Plan) (number place parent cost keys idx number' : List ℕ) (start : ℕ) → Room p number place parent cost keys idx → Sides p → start ≤ area_of p → number' ≡ replicate (length number) 0 → Able number' place parent cost 0 start 0
-able_start p number place parent cost keys idx number' start a s h e =
-    let l : length number' ≡ length number = ap length e ∙ length-replicate (length number) 0 in
+pub able_start : (p : Plan) (r : Work) (number' : List ℕ) (start : ℕ) → Room p r → Sides p → start ≤ area_of p → number' ≡ replicate (length r.number.now) 0 → Able number' r.place.now r.parent.now r.cost.now 0 start 0
+able_start p r number' start a s h e =
+    let l : length number' ≡ length r.number.now = ap length e ∙ length-replicate (length r.number.now) 0 in
     record {
       cell_in = omega (arith, a.floor);
-      known = omega (arith, ap (λ (x : List ℕ). get_or x start 0) e, zeros (length number) start);
+      known = omega (arith, ap (λ (x : List ℕ). get_or x start 0) e, zeros (length r.number.now) start);
       spare = λ z. omega (arith, a.floor);
       place_long = omega (arith, a.place_long);
       parent_long = omega (arith, a.parent_long);

@@ -1,2 +1,1 @@
-mod Zeros
 mod Begun

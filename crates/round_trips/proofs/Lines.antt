@@ -1,4 +1,5 @@
 -- A line that is written is read back: each coordinate, by a test that antt computes at each of the 2,048, and each number up to a limit. Assumes nothing.
+use Rattle.std.specs.Prelude.{Some, None}
 use mathlib.Core.Path.{◌≡◌, refl, sym, ap, ◌∙◌, subst}
 use mathlib.Core.Bool.{Bool, true, false, ◌&&◌, cond}
 use mathlib.Core.List.{List, [], ◌∷◌, ◌++◌, append_assoc}
@@ -17,14 +18,9 @@ use Rattle.points.specs.Plane.{in_range, legal}
 use Rattle.points.specs.declared.Point.{Point}
 use Rattle.points.proofs.Halves.{mag_of}
 use Rattle.points.proofs.Signed.{in_halves, parts}
-use Rattle.text.specs.Grammar.{coord_of, number_of, pair_of, first, second, byte_is}
+use Rattle.text.specs.Grammar.{Num, Coord, coord_of, number_of, pair_of, first, second, byte_is}
 use Rattle.lines.specs.Lines.{starts_with, number_end, point_end, number_line, point_line}
-use Rattle.text.specs.declared.Pair.TheVariants.{Both, Neither}
 use Rattle.printing.specs.Render.{coord_text, digits_in, digits_of, pair_text, number_text, point_text}
-use Rattle.text.specs.declared.Num.{Num}
-use Rattle.text.specs.declared.Num.TheVariants.{Whole, Wrong}
-use Rattle.text.specs.declared.Coord.{Coord}
-use Rattle.text.specs.declared.Coord.TheVariants.{At, Off}
 
 -- the test passes at each number below k
 abbrev pub every : (ℕ → Bool) → ℕ → Bool
@@ -45,18 +41,18 @@ below f (suc k) t n h =
 
 -- the coordinate and the count are these
 abbrev read_as : Coord → ℤ → ℕ → Bool
-read_as (At (pos a) n) (pos b) m = eqb a b && eqb n m
-read_as (At (negsuc a) n) (negsuc b) m = eqb a b && eqb n m
-read_as (At (pos a) n) (negsuc b) m = false
-read_as (At (negsuc a) n) (pos b) m = false
-read_as Off z m = false
+read_as (Some (pos a, n)) (pos b) m = eqb a b && eqb n m
+read_as (Some (negsuc a, n)) (negsuc b) m = eqb a b && eqb n m
+read_as (Some (pos a, n)) (negsuc b) m = false
+read_as (Some (negsuc a, n)) (pos b) m = false
+read_as None z m = false
 
-read_is : (c : Coord) (z : ℤ) (m : ℕ) → T (read_as c z m) → c ≡ At z m
-read_is (At (pos a) n) (pos b) m t = let q = and_yes (eqb a b) (eqb n m) t in λ i. At (pos (eqb→eq a b q.0 i)) (eqb→eq n m q.1 i)
-read_is (At (negsuc a) n) (negsuc b) m t = let q = and_yes (eqb a b) (eqb n m) t in λ i. At (negsuc (eqb→eq a b q.0 i)) (eqb→eq n m q.1 i)
-read_is (At (pos a) n) (negsuc b) m t = absurd t
-read_is (At (negsuc a) n) (pos b) m t = absurd t
-read_is Off z m t = absurd t
+read_is : (c : Coord) (z : ℤ) (m : ℕ) → T (read_as c z m) → c ≡ Some (z, m)
+read_is (Some (pos a, n)) (pos b) m t = let q = and_yes (eqb a b) (eqb n m) t in λ i. Some ((pos (eqb→eq a b q.0 i)), (eqb→eq n m q.1 i))
+read_is (Some (negsuc a, n)) (negsuc b) m t = let q = and_yes (eqb a b) (eqb n m) t in λ i. Some ((negsuc (eqb→eq a b q.0 i)), (eqb→eq n m q.1 i))
+read_is (Some (pos a, n)) (negsuc b) m t = absurd t
+read_is (Some (negsuc a, n)) (pos b) m t = absurd t
+read_is None z m t = absurd t
 
 -- both signs of the number n, before the byte c and any text
 abbrev again : ℕ → List ℕ → ℕ → Bool
@@ -73,7 +69,7 @@ newline rest = tt
 in_mag : (z : ℤ) → T (in_range z) → mag z < 1024
 in_mag z t = mag_of z 1024 (omega (arith, (in_halves z t).0)) (in_halves z t).1
 
-spread : (c : ℕ) (rest : List ℕ) → T (every (again c rest) 1024) → (z : ℤ) → T (in_range z) → coord_of (coord_text z ++ (c ∷ rest)) ≡ At z (length (coord_text z))
+spread : (c : ℕ) (rest : List ℕ) → T (every (again c rest) 1024) → (z : ℤ) → T (in_range z) → coord_of (coord_text z ++ (c ∷ rest)) ≡ Some (z, (length (coord_text z)))
 spread c rest t (pos n) h =
     let q = and_yes (read_as (coord_of (coord_text (pos n) ++ (c ∷ rest))) (pos n) (length (coord_text (pos n)))) (read_as (coord_of (coord_text (negsuc n) ++ (c ∷ rest))) (negsuc n) (length (coord_text (negsuc n)))) (below (again c rest) 1024 t n (in_mag (pos n) h)) in
     read_is (coord_of (coord_text (pos n) ++ (c ∷ rest))) (pos n) (length (coord_text (pos n))) q.0
@@ -81,7 +77,7 @@ spread c rest t (negsuc n) h =
     let q = and_yes (read_as (coord_of (coord_text (pos n) ++ (c ∷ rest))) (pos n) (length (coord_text (pos n)))) (read_as (coord_of (coord_text (negsuc n) ++ (c ∷ rest))) (negsuc n) (length (coord_text (negsuc n)))) (below (again c rest) 1024 t n (in_mag (negsuc n) h)) in
     read_is (coord_of (coord_text (negsuc n) ++ (c ∷ rest))) (negsuc n) (length (coord_text (negsuc n))) q.1
 
-pub coord_again : (z : ℤ) → T (in_range z) → (rest : List ℕ) → (coord_of (coord_text z ++ (44 ∷ rest)) ≡ At z (length (coord_text z))) × (coord_of (coord_text z ++ (10 ∷ rest)) ≡ At z (length (coord_text z)))
+pub coord_again : (z : ℤ) → T (in_range z) → (rest : List ℕ) → (coord_of (coord_text z ++ (44 ∷ rest)) ≡ Some (z, (length (coord_text z)))) × (coord_of (coord_text z ++ (10 ∷ rest)) ≡ Some (z, (length (coord_text z))))
 coord_again z h rest = (spread 44 rest (comma rest) z h, spread 10 rest (newline rest) z h)
 
 begins : (word rest : List ℕ) → starts_with word (word ++ rest) ≡ true
@@ -103,7 +99,7 @@ after : (xs ys : List ℕ) (b : ℕ) → drop (length xs + 1) (xs ++ (b ∷ ys))
 after xs ys b = sym (drop-drop 1 (length xs) (xs ++ (b ∷ ys))) ∙ ap (drop 1) (drop_at xs (b ∷ ys) (length xs) refl)
 
 module _ (p : Point) (ok : T (legal p)) where
-  pub pair_again : (rest : List ℕ) → pair_of (pair_text p ++ (10 ∷ rest)) ≡ Both p (length (pair_text p))
+  pub pair_again : (rest : List ℕ) → pair_of (pair_text p ++ (10 ∷ rest)) ≡ Some (p, (length (pair_text p)))
   pair_again rest =
       let X = coord_text p.x in
       let Y = coord_text p.y in
@@ -111,33 +107,33 @@ module _ (p : Point) (ok : T (legal p)) where
       let in_range = parts p ok in
       ap pair_of (append_assoc X (44 ∷ Y) (10 ∷ rest))
       ∙ ap (first (X ++ (44 ∷ R))) (coord_again p.x in_range.0 R).0
-      ∙ (λ i. cond (byte_after X R 44 i) (second p.x (length X) (coord_of (after X R 44 i))) Neither)
+      ∙ (λ i. cond (byte_after X R 44 i) (second p.x (length X) (coord_of (after X R 44 i))) None)
       ∙ ap (second p.x (length X)) (coord_again p.y in_range.1 rest).1
-      ∙ ap (Both p) (count X Y)
+      ∙ ap (λ (n : ℕ). Some (p, n)) (count X Y)
     where
       count : (X Y : List ℕ) → length X + 1 + length Y ≡ length (X ++ (44 ∷ Y))
       count X Y = omega (arith, length-append X (44 ∷ Y))
 
-  pub line_again : (word rest : List ℕ) → point_line word (point_text word p ++ rest) ≡ Both p (length (point_text word p))
+  pub line_again : (word rest : List ℕ) → point_line word (point_text word p ++ rest) ≡ Some (p, (length (point_text word p)))
   unfolding point_line
   line_again word rest =
       let R = pair_text p ++ (10 ∷ rest) in
       ap (point_line word) (grouped word (pair_text p) rest)
-      ∙ ap (λ (t : Bool). cond t (point_end (length word) (drop (length word) (word ++ R)) (pair_of (drop (length word) (word ++ R)))) Neither) (begins word R)
+      ∙ ap (λ (t : Bool). cond t (point_end (length word) (drop (length word) (word ++ R)) (pair_of (drop (length word) (word ++ R)))) None) (begins word R)
       ∙ ap (λ (l : List ℕ). point_end (length word) l (pair_of l)) (drop_at word R (length word) refl)
       ∙ ap (point_end (length word) R) (pair_again rest)
-      ∙ ap (λ (t : Bool). cond t (Both p (length word + length (pair_text p) + 1)) Neither) (byte_after (pair_text p) rest 10)
-      ∙ ap (Both p) (counted word (pair_text p))
+      ∙ ap (λ (t : Bool). cond t (Some (p, (length word + length (pair_text p) + 1))) None) (byte_after (pair_text p) rest 10)
+      ∙ ap (λ (n : ℕ). Some (p, n)) (counted word (pair_text p))
 
 -- ---- a number of at most a limit, before a newline
 -- the number and the count are these
 abbrev pub num_as : Num → ℕ → ℕ → Bool
-num_as (Whole v n) w m = eqb v w && eqb n m
-num_as Wrong w m = false
+num_as (Some (v, n)) w m = eqb v w && eqb n m
+num_as None w m = false
 
-num_is : (c : Num) (v m : ℕ) → T (num_as c v m) → c ≡ Whole v m
-num_is (Whole a n) v m t = let q = and_yes (eqb a v) (eqb n m) t in λ i. Whole (eqb→eq a v q.0 i) (eqb→eq n m q.1 i)
-num_is Wrong v m t = absurd t
+num_is : (c : Num) (v m : ℕ) → T (num_as c v m) → c ≡ Some (v, m)
+num_is (Some (a, n)) v m t = let q = and_yes (eqb a v) (eqb n m) t in λ i. Some ((eqb→eq a v q.0 i), (eqb→eq n m q.1 i))
+num_is None v m t = absurd t
 
 -- a limit such that each number up to it is read back
 abbrev pub Reads : ℕ → Type 0
@@ -153,16 +149,16 @@ unfolding number_of digits_in
 digits rest = tt
 
 module _ (limit : ℕ) (test : Reads limit) (n : ℕ) (h : n ≤ limit) where
-  number_again : (rest : List ℕ) → number_of limit (digits_of n ++ (10 ∷ rest)) ≡ Whole n (length (digits_of n))
+  number_again : (rest : List ℕ) → number_of limit (digits_of n ++ (10 ∷ rest)) ≡ Some (n, (length (digits_of n)))
   number_again rest = num_is (number_of limit (digits_of n ++ (10 ∷ rest))) n (length (digits_of n)) (below (λ n. num_as (number_of limit (digits_of n ++ (10 ∷ rest))) n (length (digits_of n))) (suc limit) (test rest) n (omega arith))
 
-  pub number_line_again : (word rest : List ℕ) → number_line word limit (number_text word n ++ rest) ≡ Whole n (length (number_text word n))
+  pub number_line_again : (word rest : List ℕ) → number_line word limit (number_text word n ++ rest) ≡ Some (n, (length (number_text word n)))
   unfolding number_line
   number_line_again word rest =
       let R = digits_of n ++ (10 ∷ rest) in
       ap (number_line word limit) (grouped word (digits_of n) rest)
-      ∙ ap (λ (t : Bool). cond t (number_end (length word) (drop (length word) (word ++ R)) (number_of limit (drop (length word) (word ++ R)))) Wrong) (begins word R)
+      ∙ ap (λ (t : Bool). cond t (number_end (length word) (drop (length word) (word ++ R)) (number_of limit (drop (length word) (word ++ R)))) None) (begins word R)
       ∙ ap (λ (l : List ℕ). number_end (length word) l (number_of limit l)) (drop_at word R (length word) refl)
       ∙ ap (number_end (length word) R) (number_again rest)
-      ∙ ap (λ (t : Bool). cond t (Whole n (length word + length (digits_of n) + 1)) Wrong) (byte_after (digits_of n) rest 10)
-      ∙ ap (Whole n) (counted word (digits_of n))
+      ∙ ap (λ (t : Bool). cond t (Some (n, (length word + length (digits_of n) + 1))) None) (byte_after (digits_of n) rest 10)
+      ∙ ap (λ (k : ℕ). Some (n, k)) (counted word (digits_of n))

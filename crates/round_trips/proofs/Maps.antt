@@ -1,8 +1,10 @@
 -- A map that is written is read back as the same map: its lines in turn, then its rows. Assumes nothing.
+use Rattle.std.specs.Prelude.{Some, None, Ok, Err}
 use mathlib.Core.Path.{◌≡◌, refl, sym, ap, ◌∙◌}
 use mathlib.Core.Bool.{Bool, true, false, cond, ◌&&◌}
 use mathlib.Core.List.{List, [], ◌∷◌, ◌++◌, append_assoc}
 use Prim.Native.Nat.{ℕ, zero, suc, ◌+◌, ◌*◌, ◌≤◌}
+use native.Mathlib.Nat.{suc-mul}
 use native.Mathlib.Omega.{arith}
 use borrow.Author.Tests.{le-ltb}
 use lib.Dec.{T, eqb}
@@ -10,21 +12,19 @@ use lib.ListN.{length, drop, length-append, length-drop}
 use lib.Seq.{sets, drop-drop, drop_at}
 use Rattle.cells.specs.Cells.{most_side}
 use Rattle.lines.specs.Lines.{point_line}
-use Rattle.text.specs.declared.Num.TheVariants.{Whole, Wrong}
 use Rattle.printing.specs.Render.{number_text, point_text}
 use Rattle.printing.proofs.Written.{number_text_length, point_text_length}
-use Rattle.rows.specs.Rows.{is_cell, cells_then, row_ok, rows_of, mark_of, marks, cells_of}
-use Rattle.rows.specs.declared.Rows.TheVariants.{Good, Bad as BadRow}
-use Rattle.rows.proofs.Laws.{none, less_one, row_room}
+use Rattle.rows.specs.Rows.{bad_line, is_cell, cells_then, row_ok, rows_of, mark_of, marks, cells_of}
 use Rattle.maps.specs.Maps.{side_ok, side_of, size_line, flag_of, flag_line, width_word, height_word, diagonal_word, start_word, goal_word, after_width, after_height, after_diagonal, after_start, after_goal, head_of, Fair, with_rows, with_head, most_text, map_of, into_table, cells_into}
 use Rattle.maps.specs.declared.Header.{Header}
-use Rattle.maps.specs.declared.Head.TheVariants.{Of}
-use Rattle.maps.specs.declared.Reading.TheVariants.{Map, Bad}
 use Rattle.maps.proofs.Laws.{side_most}
 use Rattle.map_printing.specs.Shown.{glyph_of, shown, row_text, rows_text, map_text}
 use Rattle.map_printing.proofs.Shows.{row_text_length, rows_text_length, rows_most}
 use Rattle.round_trips.specs.RoundTrips.{flags}
 use Rattle.round_trips.proofs.Lines.{sides, digits, number_line_again, line_again}
+
+none : (n : ℕ) → suc n ≤ 0 → ⊥
+none n h = omega arith
 
 -- past a part of a text
 skip : (t : List ℕ) (k : ℕ) (x y : List ℕ) → drop k t ≡ x ++ y → drop (k + length x) t ≡ y
@@ -35,13 +35,13 @@ is : (b : Bool) → T b → b ≡ true
 is true t = refl
 is false t = absurd t
 
-size_again : (word : List ℕ) (n : ℕ) → T (side_ok n) → (rest : List ℕ) → size_line word (number_text word n ++ rest) ≡ Whole n (length (number_text word n))
+size_again : (word : List ℕ) (n : ℕ) → T (side_ok n) → (rest : List ℕ) → size_line word (number_text word n ++ rest) ≡ Some (n, (length (number_text word n)))
 unfolding size_line
 size_again word n h rest =
     ap side_of (number_line_again 1024 sides n (omega (arith, side_most n h)) word rest)
-    ∙ ap (λ (t : Bool). cond t (Whole n (length (number_text word n))) Wrong) (is (side_ok n) h)
+    ∙ ap (λ (t : Bool). cond t (Some (n, (length (number_text word n)))) None) (is (side_ok n) h)
 
-flag_again : (word : List ℕ) (d : Bool) (rest : List ℕ) → flag_line word (number_text word (cond d 1 0) ++ rest) ≡ Whole (cond d 1 0) (length (number_text word (cond d 1 0)))
+flag_again : (word : List ℕ) (d : Bool) (rest : List ℕ) → flag_line word (number_text word (cond d 1 0) ++ rest) ≡ Some ((cond d 1 0), (length (number_text word (cond d 1 0))))
 unfolding flag_line
 flag_again word true rest = ap flag_of (number_line_again 9 digits 1 (omega arith) word rest)
 flag_again word false rest = ap flag_of (number_line_again 9 digits 0 (omega arith) word rest)
@@ -88,7 +88,7 @@ module _ (m : Header) (fair : Fair m) (rows : List ℕ) where
   past₅ : drop used text ≡ rows
   past₅ = skip text (length f₁ + length f₂ + length f₃ + length f₄) f₅ rows past₄
 
-  head_again : head_of text ≡ Of m used
+  head_again : head_of text ≡ Ok (m, used)
   unfolding head_of
   head_again =
       ap (after_width text) (size_again width_word m.width fair.wide (f₂ ++ (f₃ ++ (f₄ ++ (f₅ ++ rows)))))
@@ -96,7 +96,7 @@ module _ (m : Header) (fair : Fair m) (rows : List ℕ) where
       ∙ ap (after_diagonal text m.width m.height (length f₁ + length f₂)) (ap (flag_line diagonal_word) past₂ ∙ flag_again diagonal_word m.diagonal (f₄ ++ (f₅ ++ rows)))
       ∙ ap (after_start text m.width m.height (cond m.diagonal 1 0) (length f₁ + length f₂ + length f₃)) (ap (point_line start_word) past₃ ∙ line_again m.start fair.start start_word (f₅ ++ rows))
       ∙ ap (after_goal m.width m.height (cond m.diagonal 1 0) m.start (length f₁ + length f₂ + length f₃ + length f₄)) (ap (point_line goal_word) past₄ ∙ line_again m.goal fair.goal goal_word rows)
-      ∙ (λ i. Of (record { width = m.width; height = m.height; diagonal = flag_back m.diagonal i; start = m.start; goal = m.goal }) used)
+      ∙ (λ i. Ok ((record { width = m.width; height = m.height; diagonal = flag_back m.diagonal i; start = m.start; goal = m.goal }), used))
 
   short : length rows ≤ most_side * (most_side + 5) → length text ≤ most_text
   short h =
@@ -161,19 +161,19 @@ flags_append (suc a) b (x ∷ l) h = ap (λ (n : ℕ). flags n (x ∷ l)) next �
     next : suc a + b ≡ suc (a + b)
     next = omega arith
 
-rows_again : (h w line : ℕ) (l : List ℕ) → h * w ≤ length l → (rows_of h w line (rows_text h w l) ≡ Good) × (cells_of h w (rows_text h w l) ≡ flags (h * w) l)
+rows_again : (h w line : ℕ) (l : List ℕ) → h * w ≤ length l → (rows_of h w line (rows_text h w l) ≡ Ok tt) × (cells_of h w (rows_text h w l) ≡ flags (h * w) l)
 unfolding rows_of cells_of rows_text flags
 rows_again zero w line l e = (refl, ap (λ (n : ℕ). flags n l) none_yet)
   where
     none_yet : 0 ≡ 0 * w
     none_yet = omega arith
 rows_again (suc h) w line l e =
-    let cells : suc h * w ≡ w + h * w = row_room (suc h) w (omega arith) ∙ ap (λ (n : ℕ). w + n * w) (less_one h) in
+    let cells : suc h * w ≡ w + h * w = omega (arith, suc-mul h w) in
     let enough : w ≤ length l = omega (arith, cells, e) in
     let rest = rows_text h w (drop w l) in
     let t = row_text w l ++ rest in
     let r = rows_again h w (line + 1) (drop w l) (omega (arith, cells, e, length-drop w l)) in (
-      ap (λ (b : Bool). cond b (rows_of h w (line + 1) (drop (w + 5) t)) (BadRow line)) (row_again w l rest enough)
+      ap (λ (b : Bool). cond b (rows_of h w (line + 1) (drop (w + 5) t)) (Err (bad_line line))) (row_again w l rest enough)
           ∙ ap (rows_of h w (line + 1)) (row_past w l rest enough) ∙ r.0,
       ap (λ (b : Bool). cond b (marks w (drop 4 t) ++ cells_of h w (drop (w + 5) t)) []) (row_again w l rest enough)
           ∙ (λ i. marks_again w l rest enough i ++ cells_of h w (row_past w l rest enough i))
@@ -183,7 +183,7 @@ rows_again (suc h) w line l e =
 
 -- a map's text is read back as the map, and its cells as the table has them
 pub map_again : (m : Header) (cells table : List ℕ) → Fair m → m.height * m.width ≤ length cells
-    → (map_of (map_text m cells) ≡ Map m) × (cells_into (map_text m cells) table ≡ sets table 0 (flags (m.height * m.width) cells))
+    → (map_of (map_text m cells) ≡ Ok m) × (cells_into (map_text m cells) table ≡ sets table 0 (flags (m.height * m.width) cells))
 unfolding map_of cells_into map_text
 map_again m cells table fair room =
     let rows = rows_text m.height m.width cells in
@@ -191,7 +191,7 @@ map_again m cells table fair room =
     let r = rows_again m.height m.width 6 cells room in
     let most = rows_most m.width m.height (side_most m.width fair.wide) (side_most m.height fair.high) in
     let fits = le-ltb most_text (length t) (short m fair rows (omega (arith, rows_text_length m.height m.width cells room, most))) in (
-      ap (λ (b : Bool). cond b (Bad 0) (with_head t (head_of t))) fits
+      ap (λ (b : Bool). cond b (Err (bad_line 0)) (with_head t (head_of t))) fits
           ∙ ap (with_head t) (head_again m fair rows)
           ∙ ap (with_rows m) (ap (rows_of m.height m.width 6) (past₅ m fair rows) ∙ r.0),
       ap (λ (b : Bool). cond b table (into_table t (head_of t) table)) fits

@@ -2,23 +2,25 @@
 // What is wrong with a map is said in words too, on standard error.
 #![tactic(auto)]
 
-use prompt::EprintBytes;
+use prompt::{EprintBytes, Failure};
 use std::env::Env;
 use std::fs::Files;
 use std::io;
 use std::io::Read;
 
+const PROGRAM: &str = "route: ";
+
 // Tells of a write on standard output that failed.
 fn tell_unwritten(rt: &impl EprintBytes, wrote: io::Result<()>) {
     if let Err(e) = wrote {
-        prompt::fail(rt, b"route: ", b"standard output", e);
+        prompt::tell(rt, PROGRAM, b"standard output", Failure::from(e));
     }
 }
 
-fn say_help(rt: &(impl Print + EprintBytes)) {
-    let wrote = prompt::help(
+fn help(rt: &impl Print) -> io::Result<()> {
+    prompt::help(
         rt,
-        b"route finds a way for a cart on the floor of a map, and prints it as numbers.
+        "route finds a way for a cart on the floor of a map, and prints it as numbers.
 
   route FILE      the map in this file
   route           the map on standard input
@@ -36,43 +38,43 @@ or, of a text that is no map,
   line=7          the first bad or missing line from 1; 0 where there are more than 8192 bytes
 and says on standard error what is wrong there, or with the file.
 ",
-    );
-    tell_unwritten(rt, wrote);
+    )
 }
 
 // Prints the route of the map that an input gives, and what is wrong with it.
 fn route_from(rt: &(impl Print + EprintBytes), name: &[u8], input: &mut impl Read) {
-    let mut text = [0u8; 8193];
-    let n = prompt::read_full(input, &mut text);
+    let mut room = [0u8; 8193];
+    let text = prompt::read_full(input, &mut room);
     let mut out = [0u8; router::PRINT];
-    let m = router::route_text(&text[..n], &mut out);
-    tell_unwritten(rt, rt.write_all(&out[..m]));
-    prompt::tell_fault(rt, b"route: ", name, &text[..n]);
+    let n = router::route_text(text, &mut out);
+    tell_unwritten(rt, rt.write_all(&out[..n]));
+    prompt::tell_fault(rt, PROGRAM, name, text);
 }
 
-// Prints the route of the map in the file that argument 1 names.
-fn route_file(rt: &(impl Env + Files + Print + EprintBytes)) {
-    let mut path = [0u8; 4096];
-    let Some(length) = prompt::file_name(rt, b"route: ", 1, &mut path) else {
-        return;
-    };
-    let name = &path[..length];
-    if name == b"--help".as_slice() {
-        say_help(rt);
-        return;
+// Prints the route of the map in the file of a name.
+fn route_file(rt: &(impl Files + Print + EprintBytes), name: &[u8]) {
+    match prompt::open(rt, name) {
+        Ok(mut file) => route_from(rt, name, &mut file),
+        Err(why) => prompt::tell(rt, PROGRAM, name, why),
     }
-    if let Some(mut file) = prompt::open(rt, b"route: ", name) {
-        route_from(rt, name, &mut file);
+}
+
+// Does what argument 1 asks for.
+fn route_argument(rt: &(impl Env + Files + Print + EprintBytes)) {
+    let mut room = [0u8; 4096];
+    match prompt::file_name(rt, 1, &mut room) {
+        Ok(b"--help") => tell_unwritten(rt, help(rt)),
+        Ok(name) => route_file(rt, name),
+        Err(why) => prompt::tell(rt, PROGRAM, b"file name", why),
     }
 }
 
 fn main(rt: HostRuntime) {
-    let n = prompt::arg_count(&rt);
-    if n < 2 {
-        route_from(&rt, b"standard input", &mut rt.stdin());
-    } else if n == 2 {
-        route_file(&rt);
-    } else {
-        prompt::warn(&rt, b"route: one file at a time; route --help says more\n");
+    match prompt::arg_count(&rt) {
+        0 | 1 => route_from(&rt, b"standard input", &mut rt.stdin()),
+        2 => route_argument(&rt),
+        _ => {
+            let _ = eprintln!(rt; "route: one file at a time; route --help says more");
+        }
     }
 }

@@ -1,4 +1,5 @@
 -- What the writer asks of the other parts: few pops, few waypoints, legal points, a low line. Assumes nothing.
+use Rattle.std.specs.Prelude.{Option, Some, None, Result, Ok, Err}
 use mathlib.Core.Path.{◌≡◌, refl, sym, ap, ◌∙◌, subst}
 use mathlib.Core.Bool.{Bool, true, false, cond, true≢false}
 use mathlib.Core.List.{List, [], ◌∷◌}
@@ -28,30 +29,16 @@ use Rattle.waypoints.specs.Waypoints as W
 use Rattle.waypoints.specs.Waypoints.{ground_of}
 use Rattle.grid.specs.Grids.{legal_of}
 use Rattle.grid.specs.declared.Grid.{Grid}
-use Rattle.grid.specs.declared.Outcome.TheVariants.{Done, Refused as RefusedMap}
-use Rattle.pairs.specs.Pairs.{Even, first_bad}
-use Rattle.pairs.specs.declared.Bad.{Bad as BadPoints}
-use Rattle.pairs.specs.declared.Bad.TheVariants.{At, Nowhere}
-use Rattle.text.specs.declared.Num.{Num}
-use Rattle.text.specs.declared.Num.TheVariants.{Whole, Wrong}
-use Rattle.text.specs.declared.Pair.{Pair}
-use Rattle.text.specs.declared.Pair.TheVariants.{Both, Neither}
+use Rattle.pairs.specs.Pairs.{blamed_of, Even, first_bad}
+use Rattle.text.specs.Grammar.{Num, Pair}
 use Rattle.lines.specs.Lines.{point_line}
-use Rattle.rows.specs.Rows.{row_ok, rows_of}
-use Rattle.rows.specs.declared.Rows.{Rows}
-use Rattle.rows.specs.declared.Rows.TheVariants.{Good, Bad as BadRow}
-use Rattle.maps.specs.Maps.{size_line, flag_line, width_word, height_word, diagonal_word, start_word, goal_word, after_width, after_height, after_diagonal, after_start, after_goal, head_of, with_rows, with_head, most_text, map_of, cells_into}
+use Rattle.rows.specs.Rows.{bad_line, Rows, row_ok, rows_of}
+use Rattle.maps.specs.Maps.{Head, Reading, size_line, flag_line, width_word, height_word, diagonal_word, start_word, goal_word, after_width, after_height, after_diagonal, after_start, after_goal, head_of, with_rows, with_head, most_text, map_of, cells_into}
 use Rattle.maps.specs.declared.Header.{Header}
-use Rattle.maps.specs.declared.Head.{Head}
-use Rattle.maps.specs.declared.Head.TheVariants.{Of, Bad as BadHead}
-use Rattle.maps.specs.declared.Reading.{Reading}
-use Rattle.maps.specs.declared.Reading.TheVariants.{Map, Bad}
 use Rattle.maps.proofs.Laws.{HBounded, head_fair, side_most}
 use Rattle.checks.specs.declared.Checked.{Checked}
-use Rattle.checks.specs.declared.Checked.TheVariants.{Judged, Refused as RefusedCheck}
-use Rattle.legs.specs.declared.Bend.{Bend}
 use Rattle.legs.specs.Legs.{first_bent_of}
-use Rattle.checks.specs.Checks.{clear_of, judged, check_in, check_of}
+use Rattle.checks.specs.Checks.{judged, clear_of, check_in, check_of}
 use Rattle.floors.specs.Floors.{read_as, read_of}
 use lib.Seq.{sets}
 use Rattle.answers.specs.Answers.{bad_text}
@@ -117,30 +104,30 @@ pub few_points : (n : ℕ) (r : Reply) → Within n (answer_of n r).outcome
 unfolding answer_of wrote_of
 few_points n (found i k m s) = by (ltb (n / 2) (length (route_in s i))) (ltb-false (n / 2) (length (route_in s i)))
   where
-    by : (b : Bool) → (b ≡ false → length (route_in s i) ≤ n / 2) → Within n (wroteTold k (cond b Rattle.trails.specs.declared.Wrote.TheVariants.Room (Rattle.trails.specs.declared.Wrote.TheVariants.Written (length (route_in s i)))))
+    by : (b : Bool) → (b ≡ false → length (route_in s i) ≤ n / 2) → Within n (wroteTold k (cond b (Err refusal.Room) (Ok (length (route_in s i)))))
     by true f = tt
     by false f = omega (arith, f refl)
 few_points n (refused w m) = tt
 
 -- ---- the points of a checked route are legal
-abbrev pub Fine : List ℤ → Checked → Type 0
-Fine l (Judged clear bend) = Even (length l) × (first_bad l ≡ Nowhere)
-Fine l (RefusedCheck r) = Unit {0}
+abbrev pub Fine : List ℤ → Result Checked Refusal → Type 0
+Fine l (Ok c) = Even (length l) × (first_bad l ≡ None)
+Fine l (Err r) = Unit {0}
 
 pub checked_fine : (g : Grid) (l : List ℤ) → Fine l (check_of g l)
 unfolding check_of check_in
-checked_fine g l = by (legal_of g) (eqb (length l) 0) (eqb (length l % 2) 1) even (first_bad l) (λ e. e) (clear_of g.width g.height g.blocked l) (first_bent_of l)
+checked_fine g l = by (legal_of g) (eqb (length l) 0) (eqb (length l % 2) 1) even (first_bad l) (λ e. e) (judged (clear_of g.width g.height g.blocked l) (first_bent_of l))
   where
     even : eqb (length l % 2) 1 ≡ false → length l % 2 ≡ 0
     even e = let no_odd : length l % 2 ≡ 1 → ⊥ = λ h. true≢false (sym (eq-eqb (length l % 2) 1 h) ∙ e) in omega (arith, no_odd)
 
-    by : (a b c : Bool) → (c ≡ false → length l % 2 ≡ 0) → (f : BadPoints) → (f ≡ Nowhere → first_bad l ≡ Nowhere) → (t : Bool) (s : Bend)
-        → Fine l (cond a (cond b (RefusedCheck refusal.List) (cond c (RefusedCheck refusal.List) (judged f t s))) (RefusedCheck refusal.State))
-    by true false false p Nowhere q t s = (p refl, q refl)
-    by true false false p (At x) q t s = tt
-    by true false true p f q t s = tt
-    by true true c p f q t s = tt
-    by false b c p f q t s = tt
+    by : (a b c : Bool) → (c ≡ false → length l % 2 ≡ 0) → (f : Option Point) → (f ≡ None → first_bad l ≡ None) → (v : Checked)
+        → Fine l (cond a (cond b (Err refusal.List) (cond c (Err refusal.List) (blamed_of f (Ok v)))) (Err refusal.State))
+    by true false false p None q v = (p refl, q refl)
+    by true false false p (Some x) q v = tt
+    by true false true p f q v = tt
+    by true true c p f q v = tt
+    by false b c p f q v = tt
 
 -- ---- a refusal's number, and the line of a bad text
 pub told_low : (r : Refusal) → (told_of r).number ≤ 14
@@ -160,8 +147,8 @@ told_low refusal.List = omega arith
 told_low (refusal.BadPoint p) = omega arith
 
 abbrev RowsLow : ℕ → Rows → Type 0
-RowsLow m Good = Unit {0}
-RowsLow m (BadRow n) = n ≤ m
+RowsLow m (Ok u) = Unit {0}
+RowsLow m (Err e) = e.line ≤ m
 
 rows_low : (h w line : ℕ) (l : List ℕ) → RowsLow (line + h) (rows_of h w line l)
 unfolding rows_of
@@ -170,83 +157,77 @@ rows_low zero w line (b ∷ l) = omega arith
 rows_low (suc h) w line l = by (row_ok w l) (rows_of h w (line + 1) (drop (w + 5) l)) (rows_low h w (line + 1) (drop (w + 5) l))
   where
     wider : (r : Rows) → RowsLow (line + 1 + h) r → RowsLow (line + suc h) r
-    wider Good q = tt
-    wider (BadRow n) q = omega arith
+    wider (Ok u) q = tt
+    wider (Err n) q = omega arith
 
-    by : (b : Bool) (r : Rows) → RowsLow (line + 1 + h) r → RowsLow (line + suc h) (cond b r (BadRow line))
+    by : (b : Bool) (r : Rows) → RowsLow (line + 1 + h) r → RowsLow (line + suc h) (cond b r (Err (bad_line line)))
     by true r q = wider r q
     by false r q = omega arith
 
 abbrev HeadLow : Head → Type 0
-HeadLow (Of m k) = Unit {0}
-HeadLow (BadHead n) = n ≤ 5
+HeadLow (Ok (m, k)) = Unit {0}
+HeadLow (Err e) = e.line ≤ 5
 
 goal_low : (w h d : ℕ) (start : Point) (k : ℕ) (r : Pair) → HeadLow (after_goal w h d start k r)
-goal_low w h d start k (Both p n) = tt
-goal_low w h d start k Neither = omega arith
+goal_low w h d start k (Some (p, n)) = tt
+goal_low w h d start k None = omega arith
 
 start_low : (t : List ℕ) (w h d k : ℕ) (r : Pair) → HeadLow (after_start t w h d k r)
-start_low t w h d k (Both p n) = goal_low w h d p (k + n) (point_line goal_word (drop (k + n) t))
-start_low t w h d k Neither = omega arith
+start_low t w h d k (Some (p, n)) = goal_low w h d p (k + n) (point_line goal_word (drop (k + n) t))
+start_low t w h d k None = omega arith
 
 diagonal_low : (t : List ℕ) (w h k : ℕ) (r : Num) → HeadLow (after_diagonal t w h k r)
-diagonal_low t w h k (Whole d n) = start_low t w h d (k + n) (point_line start_word (drop (k + n) t))
-diagonal_low t w h k Wrong = omega arith
+diagonal_low t w h k (Some (d, n)) = start_low t w h d (k + n) (point_line start_word (drop (k + n) t))
+diagonal_low t w h k None = omega arith
 
 height_low : (t : List ℕ) (w k : ℕ) (r : Num) → HeadLow (after_height t w k r)
-height_low t w k (Whole h n) = diagonal_low t w h (k + n) (flag_line diagonal_word (drop (k + n) t))
-height_low t w k Wrong = omega arith
+height_low t w k (Some (h, n)) = diagonal_low t w h (k + n) (flag_line diagonal_word (drop (k + n) t))
+height_low t w k None = omega arith
 
 head_low : (t : List ℕ) → HeadLow (head_of t)
 unfolding head_of
 head_low t = by (size_line width_word t)
   where
     by : (r : Num) → HeadLow (after_width t r)
-    by (Whole w n) = height_low t w n (size_line height_word (drop n t))
-    by Wrong = omega arith
+    by (Some (w, n)) = height_low t w n (size_line height_word (drop n t))
+    by None = omega arith
 
 abbrev MapLow : Reading → Type 0
-MapLow (Map m) = Unit {0}
-MapLow (Bad n) = n ≤ 6 + most_side
+MapLow (Ok m) = Unit {0}
+MapLow (Err e) = e.line ≤ 6 + most_side
 
 map_low : (t : List ℕ) → MapLow (map_of t)
 unfolding map_of
 map_low t = by (ltb most_text (length t))
   where
     rows : (m : Header) → m.height ≤ most_side → (r : Rows) → RowsLow (6 + m.height) r → MapLow (with_rows m r)
-    rows m h Good q = tt
-    rows m h (BadRow n) q = omega arith
+    rows m h (Ok u) q = tt
+    rows m h (Err n) q = omega arith
 
     head : (r : Head) → HBounded (length t) r → HeadLow r → MapLow (with_head t r)
-    head (Of m k) b l = rows m (side_most m.height b.0.high) (rows_of m.height m.width 6 (drop k t)) (rows_low m.height m.width 6 (drop k t))
-    head (BadHead n) b l = omega arith
+    head (Ok (m, k)) b l = rows m (side_most m.height b.0.high) (rows_of m.height m.width 6 (drop k t)) (rows_low m.height m.width 6 (drop k t))
+    head (Err n) b l = omega arith
 
-    by : (b : Bool) → MapLow (cond b (Bad 0) (with_head t (head_of t)))
+    by : (b : Bool) → MapLow (cond b (Err (bad_line 0)) (with_head t (head_of t)))
     by true = omega arith
     by false = head (head_of t) (head_fair t) (head_low t)
 
-pub line_low : (t : List ℕ) (r : Refusal) → (read_of t).outcome ≡ RefusedMap r → (told_of r).line ≤ 6 + most_side
+pub line_low : (t : List ℕ) (r : Refusal) → (read_of t).outcome ≡ Err r → (told_of r).line ≤ 6 + most_side
 unfolding read_of
 line_low t r e = by (map_of t) (map_low t) e
   where
-    by : (q : Reading) → MapLow q → (read_as (cells_into t Rattle.grid.specs.Grids.zeros) q).outcome ≡ RefusedMap r → (told_of r).line ≤ 6 + most_side
-    by (Map m) l f = absurd (never f)
-      where
-        never : Done ≡ RefusedMap r → ⊥
-        never f = let z : ◌≡◌ {A = ℕ} 0 1 = cc in omega arith
-    by (Bad n) l f = subst (λ (x : Refusal). (told_of x).line ≤ 6 + most_side) (same f) l
-      where
-        same : RefusedMap (refusal.Map n) ≡ RefusedMap r → refusal.Map n ≡ r
-        same f = cc
+    by : (q : Reading) → MapLow q → (read_as (cells_into t Rattle.grid.specs.Grids.zeros) q).outcome ≡ Err r → (told_of r).line ≤ 6 + most_side
+    by (Ok m) l f = cc
+    by (Err n) l f = let e : refusal.Map n.line ≡ r = cc in subst (λ (x : Refusal). (told_of x).line ≤ 6 + most_side) e l
 
 -- ---- the whole
 pub by_text : (n : ℕ) (l new x y : List ℕ) → x ≡ y → (n ≡ length x) × (new ≡ sets l 0 x) → (n ≡ length y) × (new ≡ sets l 0 y)
 by_text n l new x y e p = (p.0 ∙ ap length e, p.1 ∙ ap (sets l 0) e)
 
-pub route_bad : (t : List ℕ) (r : Refusal) → (read_of t).outcome ≡ RefusedMap r → bad_text (told_of r).line ≡ route_text t
+pub route_bad : (t : List ℕ) (r : Refusal) → (read_of t).outcome ≡ Err r → bad_text (told_of r).line ≡ route_text t
 unfolding route_text
 route_bad t r e = sym (ap (map_told (read_of t)) e)
 
-pub route_done : (t : List ℕ) → (read_of t).outcome ≡ Done → search_text (rebuild_outcome (read_of t).grid (read_of t).diagonal).grid (read_of t).diagonal (read_of t).start (read_of t).goal ≡ route_text t
+pub route_done : (t : List ℕ) → {u : Unit} → (read_of t).outcome ≡ Ok u → search_text (rebuild_outcome (read_of t).grid (read_of t).diagonal).grid (read_of t).diagonal (read_of t).start (read_of t).goal ≡ route_text t
 unfolding route_text
 route_done t e = sym (ap (map_told (read_of t)) e)

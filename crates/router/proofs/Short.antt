@@ -1,4 +1,5 @@
 -- What is printed is short enough for its room. Assumes nothing.
+use Rattle.std.specs.Prelude.{Result, Ok, Err}
 use mathlib.Core.Path.{◌≡◌, refl, ap}
 use mathlib.Core.Bool.{Bool, true, false, cond}
 use mathlib.Core.List.{List, [], ◌∷◌, ◌++◌}
@@ -8,20 +9,21 @@ use lib.Dec.{ltb}
 use lib.IntN.{ℤ}
 use lib.ListN.{length, take, length-append, length-take}
 use lib.Seq.{sets, length-sets}
+use Rattle.points.specs.declared.Refusal.{Refusal}
 use Rattle.points.specs.Refusals.{told_of}
+use Rattle.points.specs.declared.Refusal.{Refusal}
 use Rattle.goals.specs.declared.Plan.{Plan}
 use Rattle.offers.specs.Search.{Reply, found, refused}
 use Rattle.trails.specs.Trail.{left_in, pairs}
 use Rattle.finder.specs.Find.{answer_of, out_after, route_in}
-use Rattle.finder.specs.declared.Outcome.{Outcome}
-use Rattle.finder.specs.declared.Outcome.TheVariants.{Found, Refused}
+use Rattle.points.specs.declared.Refusal.{Refusal}
+use Rattle.finder.specs.declared.Found.{Found}
+use Rattle.std.specs.Prelude.{Result, Ok, Err}
 use Rattle.waypoints.specs.Waypoints.{single_plan}
 use Rattle.grid.specs.Grids.{rebuild_outcome}
 use Rattle.grid.specs.declared.Grid.{Grid}
-use Rattle.grid.specs.declared.Outcome.{Outcome as Change}
-use Rattle.grid.specs.declared.Outcome.TheVariants.{Done, Refused as RefusedMap}
 use Rattle.checks.specs.declared.Checked.{Checked}
-use Rattle.checks.specs.declared.Checked.TheVariants.{Judged, Refused as RefusedCheck}
+use Rattle.std.specs.Prelude.{Result, Ok, Err}
 use Rattle.printing.specs.Render.{number_text, point_text}
 use Rattle.printing.proofs.Written.{number_text_length, point_text_length}
 use Rattle.pairs.specs.Pairs.{point}
@@ -58,13 +60,13 @@ answer_short n pops l clear =
       length-append d e,
     )
 
-checked_short : (c : Checked) (pops : ℕ) (l : List ℤ) → length (checked_text c pops l) ≤ 100 + 10 * length l
-checked_short (Judged clear bend) pops l = answer_short 0 pops l clear
-checked_short (RefusedCheck r) pops l = omega (arith, answer_short (told_of r).number pops [] false)
+checked_short : (c : Result Checked Refusal) (pops : ℕ) (l : List ℤ) → length (checked_text c pops l) ≤ 100 + 10 * length l
+checked_short (Ok c) pops l = answer_short 0 pops l c.clear
+checked_short (Err r) pops l = omega (arith, answer_short (told_of r).number pops [] false)
 
-found_short : (g : Grid) (l : List ℤ) (pops : ℕ) (o : Outcome) → length (found_text g l pops o) ≤ 100 + 10 * length l
-found_short g l pops (Found n k) = omega (arith, checked_short (check_of g (take (2 * n) l)) pops (take (2 * n) l), length-take (2 * n) l)
-found_short g l pops (Refused r) = omega (arith, answer_short (told_of r).number pops [] false)
+found_short : (g : Grid) (l : List ℤ) (pops : ℕ) (o : Result Found Refusal) → length (found_text g l pops o) ≤ 100 + 10 * length l
+found_short g l pops (Ok f) = let n = f.length in omega (arith, checked_short (check_of g (take (2 * n) l)) pops (take (2 * n) l), length-take (2 * n) l)
+found_short g l pops (Err r) = omega (arith, answer_short (told_of r).number pops [] false)
 
 out_length : (out : List ℤ) (p : Plan) (r : Reply) → length (out_after out p r) ≡ length out
 unfolding out_after left_in
@@ -80,10 +82,10 @@ pub text_short : (t : List ℕ) → length (route_text t) ≤ most_print
 unfolding route_text bad_text
 text_short t = by (read_of t) (read_of t).outcome
   where
-    by : (m : MapRead) (o : Change) → length (map_told m o) ≤ most_print
-    by m (RefusedMap r) =
+    by : (m : MapRead) (o : Result Unit Refusal) → length (map_told m o) ≤ most_print
+    by m (Err r) =
         omega (arith, length-append (number_text result_word 12) (number_text line_word (told_of r).line), number_text_length result_word 12, number_text_length line_word (told_of r).line)
-    by m Done =
+    by m (Ok u) =
         let g = (rebuild_outcome m.grid m.diagonal).grid in
         let e = exact_of g m.diagonal m.start m.goal in
         let l = out_after blank (single_plan g (settings_for m.diagonal) false m.start m.goal) e in

@@ -8,9 +8,8 @@ ghost use Rattle.waypoints.specs.Waypoints.{single_plan};
 ghost use Rattle.checks.specs.Checks.{check_of};
 ghost use Rattle.router.specs.Route.{settings_for, exact_of, refused_text, checked_text, outcome_text, Within, most_print, route_text};
 
-use checks::Checked;
 use costs::Settings;
-use finder::{Answer, Outcome};
+use finder::Answer;
 use grid::Grid;
 use points::{Point, Refusal};
 
@@ -51,8 +50,7 @@ fn put_refused(buf: &mut [u8], r: Refusal, pops: usize) -> usize
     ensures { (result ≡ length (refused_text r pops)) × (buf.new ≡ sets buf.old 0 (refused_text r pops)) }
 {
     let none = [0i32; 0];
-    let t = r.told();
-    answers::put_answer(buf, t.number as u32, pops as u32, &none, false)
+    answers::put_answer(buf, u32::from(r.number()), pops as u32, &none, false)
 }
 
 // A route printed, with its check.
@@ -60,10 +58,9 @@ fn put_found(buf: &mut [u8], list: &[i32], g: Grid, pops: usize) -> usize
     requires { (pops < 100000) × (length list.now < 100000) × (100 + 10 * length list.now ≤ length buf.old) }
     ensures { (result ≡ length (checked_text (check_of g list.now) pops list.now)) × (buf.new ≡ sets buf.old 0 (checked_text (check_of g list.now) pops list.now)) }
 {
-    let checked = checks::check_route(g, list);
-    match checked {
-        Checked::Judged(clear, _) => answers::put_answer(buf, 0, pops as u32, list, clear),
-        Checked::Refused(r) => put_refused(buf, r, pops),
+    match checks::check_route(g, list) {
+        Ok(checked) => answers::put_answer(buf, 0, pops as u32, list, checked.clear),
+        Err(r) => put_refused(buf, r, pops),
     }
 }
 
@@ -72,14 +69,9 @@ fn put_outcome(buf: &mut [u8], list: &[i32], g: Grid, a: Answer) -> usize
     requires { (a.pops < 100000) × Within (length list.now) a.outcome × (length list.now < 100000) × (100 + 10 * length list.now ≤ length buf.old) }
     ensures { (result ≡ length (outcome_text g list.now a)) × (buf.new ≡ sets buf.old 0 (outcome_text g list.now a)) }
 {
-    let pops = a.pops;
-    let outcome = a.outcome;
-    match outcome {
-        Outcome::Refused(r) => put_refused(buf, r, pops),
-        Outcome::Found(n, _) => {
-            let end = 2 * n;
-            put_found(buf, &list[..end], g, pops)
-        }
+    match a.outcome {
+        Ok(found) => put_found(buf, &list[..2 * found.length], g, a.pops),
+        Err(r) => put_refused(buf, r, a.pops),
     }
 }
 
@@ -89,19 +81,13 @@ pub fn route(text: &[u8], out: &mut [u8]) -> usize
     ensures { (result ≡ length (route_text text.now)) × (out.new ≡ sets out.old 0 (route_text text.now)) }
 {
     let m = floors::read_map(text);
-    let outcome = m.outcome;
-    if let grid::Outcome::Refused(r) = outcome {
-        let t = r.told();
-        return answers::put_bad(out, t.line as u32);
+    if let Err(r) = m.outcome {
+        return answers::put_bad(out, r.line() as u32);
     }
-    let floor = m.grid;
-    let start = m.start;
-    let goal = m.goal;
-    let diagonal = m.diagonal;
-    let rebuilt = grid::generate_components(floor, diagonal);
-    let g = rebuilt.grid;
+    let mut g = m.grid;
+    let _ = grid::generate_components(&mut g, m.diagonal);
     let mut list = [0i32; 8194];
-    let a = searched(&mut list, g, diagonal, start, goal);
+    let a = searched(&mut list, g, m.diagonal, m.start, m.goal);
     put_outcome(out, &list, g, a)
 }
 

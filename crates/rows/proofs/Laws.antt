@@ -1,159 +1,138 @@
--- The rows, one byte or one line at a time, at a place of the text. Assumes nothing.
-use mathlib.Core.Path.{◌≡◌, refl, sym, ap, ◌∙◌}
-use mathlib.Core.Bool.{Bool, true, false, cond, ◌&&◌, true≢false}
+-- A row by its parts; the rows, one line at a time. Assumes nothing.
+use mathlib.Core.Path.{◌≡◌, refl, sym, ap, ◌∙◌, subst}
+use mathlib.Core.Bool.{Bool, true, false, cond, ◌&&◌}
 use mathlib.Core.List.{List, [], ◌∷◌, ◌++◌}
-use Prim.Native.Nat.{ℕ, zero, suc, ◌+◌, ◌-◌, ◌*◌, ◌≤◌, ◌<◌}
+use Prim.Native.Nat.{ℕ, zero, suc, ◌+◌, ◌*◌, ◌≤◌, ◌<◌}
 use native.Mathlib.Nat.{suc-mul}
-use native.Mathlib.Numerals.{add-one}
 use native.Mathlib.Omega.{arith}
 use lib.Dec.{eqb}
-use lib.ListN.{length, drop, get_or, set, drop_of_length-le, length-drop}
-use lib.Seq.{sets, drop-cons, drop-drop}
-use Rattle.lines.specs.Lines.{starts_with}
-use Rattle.lines.proofs.Laws.{word_length}
+use lib.ListN.{length, take, drop, drop_of_length-le}
+use lib.Pointwise.{pointwise}
+use lib.Seq.{sets, drop-drop}
+use Rattle.std.specs.Prelude.{Option, None, Err, Ok}
+use Rattle.std.specs.Borrow.{Bor}
+use Rattle.std.specs.List.{list_all}
+use Rattle.std.proofs.Common.{map}
+use Rattle.std.proofs.Math.Bool.{and-true}
+use Rattle.std.proofs.Math.Nat.{mul-le-mul_right}
+use Rattle.text.proofs.Steps.{front}
+use Rattle.lines.proofs.Laws.{begins}
 use Rattle.printing.proofs.Written.{sets_append}
-use Rattle.rows.specs.Rows.{is_cell, cells_then, row_word, row_ok, rows_of, mark_of, marks, cells_of}
-use Rattle.rows.specs.declared.Rows.TheVariants.{Good, Bad as BadRow}
+use Rattle.rows.specs.Rows.{bad_line, is_cell, cells_then, row_word, row_ok, rows_of, mark_of, marks, cells_of, ReadsRow}
 
-pub none : (n : ℕ) → suc n ≤ 0 → ⊥
-none n h = omega arith
-
-pub empty : 0 < 0 → ⊥
-empty h = omega arith
-
-both_right : (x y : Bool) → x && y ≡ true → y ≡ true
-both_right true y q = q
-both_right false y q = absurd (true≢false (sym q))
-
-both_left : (x y : Bool) → x && y ≡ true → x ≡ true
-both_left true y q = refl
-both_left false y q = absurd (true≢false (sym q))
-
-pub less_one : (n : ℕ) → suc n - 1 ≡ n
-less_one n = omega arith
+pub no_row : (w : ℕ) (s : List ℕ) (answer : Option (Bor (List ℕ) × Bor (List ℕ))) → answer ≡ None → row_ok w s ≡ false → ReadsRow w s answer
+no_row w s answer e f = subst (ReadsRow w s) (sym e) f
 
 -- ---- w cells and a newline
-module _ (s : List ℕ) (i : ℕ) where
-  pub then_last : (left : ℕ) → left ≤ 0 → i < length s → cells_then left (drop i s) ≡ eqb (get_or s i 0) 10
-  unfolding cells_then
-  then_last zero z h = rw (drop-cons s i 0 h)
-  then_last (suc n) z h = absurd (none n z)
-
-  pub then_short : (left : ℕ) → length s ≤ i → cells_then left (drop i s) ≡ false
-  unfolding cells_then
-  then_short zero h = rw (drop_of_length-le s h)
-  then_short (suc n) h = rw (drop_of_length-le s h)
-
-  pub then_other : (left : ℕ) → 0 < left → i < length s → is_cell (get_or s i 0) ≡ false → cells_then left (drop i s) ≡ false
-  unfolding cells_then
-  then_other zero z h e = absurd (empty z)
-  then_other (suc n) z h e = ap (cells_then (suc n)) (drop-cons s i 0 h) ∙ ap (λ (t : Bool). t && cells_then n (drop (suc i) s)) e
-
-  pub then_more : (left : ℕ) → 0 < left → i < length s → is_cell (get_or s i 0) ≡ true → cells_then left (drop i s) ≡ cells_then (left - 1) (drop (i + 1) s)
-  unfolding cells_then
-  then_more zero z h e = absurd (empty z)
-  then_more (suc n) z h e =
-      ap (cells_then (suc n)) (drop-cons s i 0 h)
-      ∙ ap (λ (t : Bool). t && cells_then n (drop (suc i) s)) e
-      ∙ (λ j. cells_then (sym (less_one n) j) (drop (sym (add-one i) j) s))
-
-then_length : (w : ℕ) (l : List ℕ) → cells_then w l ≡ true → w + 1 ≤ length l
+then_is : (w : ℕ) (l : List ℕ) → cells_then w l ≡ list_all is_cell (take w l) && front 10 (drop w l)
 unfolding cells_then
-then_length zero [] e = absurd (true≢false (sym e))
-then_length zero (b ∷ l) e = omega arith
-then_length (suc w) [] e = absurd (true≢false (sym e))
-then_length (suc w) (b ∷ l) e = omega (arith, then_length w l (both_right (is_cell b) (cells_then w l) e))
-
--- ---- a row
-module _ (s : List ℕ) (at w : ℕ) where
-  pub row_other : starts_with row_word (drop at s) ≡ false → row_ok w (drop at s) ≡ false
-  unfolding row_ok
-  row_other e = ap (λ (t : Bool). t && cells_then w (drop 4 (drop at s))) e
-
-  pub row_then : starts_with row_word (drop at s) ≡ true → row_ok w (drop at s) ≡ cells_then w (drop (at + 4) s)
-  unfolding row_ok
-  row_then e = ap (λ (t : Bool). t && cells_then w (drop 4 (drop at s))) e ∙ ap (cells_then w) (drop-drop 4 at s)
-
-  pub row_length : row_ok w (drop at s) ≡ true → at + (w + 5) ≤ length s
-  unfolding row_ok
-  row_length e =
-      let long = word_length row_word (drop at s) (both_left (starts_with row_word (drop at s)) (cells_then w (drop 4 (drop at s))) e) in
-      let more = then_length w (drop 4 (drop at s)) (both_right (starts_with row_word (drop at s)) (cells_then w (drop 4 (drop at s))) e) in
-      omega (arith, long, more, length-drop 4 (drop at s), length-drop at s)
-
-pub row_room : (left w : ℕ) → 0 < left → left * w ≡ w + (left - 1) * w
-row_room zero w h = absurd (empty h)
-row_room (suc n) w h = suc-mul n w ∙ other (n * w) ∙ ap (λ (k : ℕ). w + k * w) (sym (less_one n))
+then_is zero [] = refl
+then_is zero (b ∷ l) = sym (and-true (eqb b 10))
+then_is (suc w) [] = refl
+then_is (suc w) (b ∷ l) = ap (λ (t : Bool). is_cell b && t) (then_is w l) ∙ sym (three (is_cell b) (list_all is_cell (take w l)) (front 10 (drop w l)))
   where
-    other : (k : ℕ) → k + w ≡ w + k
-    other k = omega arith
+    three : (x y z : Bool) → (x && y) && z ≡ x && (y && z)
+    three true y z = refl
+    three false y z = refl
 
--- ---- the marks of a row, one at a time
-module _ (s : List ℕ) (i : ℕ) (t : List ℕ) (k : ℕ) where
-  pub marks_done : (left : ℕ) → left ≤ 0 → sets t k (marks left (drop i s)) ≡ t
-  unfolding marks
-  marks_done zero h = refl
-  marks_done (suc n) h = absurd (none n h)
+-- ---- a row, by its parts: l is the text after the word, cells its first w bytes, and r the text after them
+module _ (w : ℕ) (s : List ℕ) where
+  pub row_other : pointwise eqb (take 4 s) row_word ≡ false → row_ok w s ≡ false
+  unfolding row_ok
+  row_other e = ap (λ (t : Bool). t && cells_then w (drop 4 s)) (begins row_word s ∙ e)
 
-  pub marks_more : (left : ℕ) → 0 < left → i < length s → sets t k (marks left (drop i s)) ≡ sets (set t k (mark_of (get_or s i 0))) (k + 1) (marks (left - 1) (drop (i + 1) s))
-  unfolding marks
-  marks_more zero z h = absurd (empty z)
-  marks_more (suc n) z h =
-      ap (λ (l : List ℕ). sets t k (marks (suc n) l)) (drop-cons s i 0 h)
-      ∙ (λ j. sets (set t k (mark_of (get_or s i 0))) (sym (add-one k) j) (marks (sym (less_one n) j) (drop (sym (add-one i) j) s)))
+  module _ (e : pointwise eqb (take 4 s) row_word ≡ true) (l : List ℕ) (d : l ≡ drop 4 s) where
+    row_is : row_ok w s ≡ list_all is_cell (take w l) && front 10 (drop w l)
+    unfolding row_ok
+    row_is = ap (λ (t : Bool). t && cells_then w (drop 4 s)) (begins row_word s ∙ e) ∙ ap (cells_then w) (sym d) ∙ then_is w l
 
-pub marks_length : (w : ℕ) (l : List ℕ) → w ≤ length l → length (marks w l) ≡ w
+    pub row_short : length l < w → row_ok w s ≡ false
+    row_short h = row_is ∙ ap (λ (q : List ℕ). list_all is_cell (take w l) && front 10 q) (drop_of_length-le l (omega arith)) ∙ and_false (list_all is_cell (take w l))
+      where
+        and_false : (b : Bool) → b && false ≡ false
+        and_false true = refl
+        and_false false = refl
+
+    module _ (cells : List ℕ) (c : cells ≡ take w l) (t : Bool) where
+      pub row_cells : list_all is_cell cells ≡ false → row_ok w s ≡ false
+      row_cells h = row_is ∙ ap (λ (b : Bool). b && front 10 (drop w l)) (ap (list_all is_cell) (sym c) ∙ h)
+
+      pub row_end : list_all is_cell cells ≡ true → (r : List ℕ) → r ≡ drop w l → front 10 r ≡ t → row_ok w s ≡ t
+      row_end h r f g = row_is ∙ ap (λ (b : Bool). b && front 10 (drop w l)) (ap (list_all is_cell) (sym c) ∙ h) ∙ ap (front 10) (sym f) ∙ g
+
+-- the text after a row
+pub after_row : (s l r q : List ℕ) (w : ℕ) → l ≡ drop 4 s → r ≡ drop w l → q ≡ drop 1 r → q ≡ drop (w + 5) s
+after_row s l r q w a b c = c ∙ ap (drop 1) (b ∙ ap (drop w) a ∙ drop-drop w 4 s) ∙ drop-drop 1 (4 + w) s ∙ ap (λ (k : ℕ). drop k s) (omega arith)
+
+pub row_room : (i h w : ℕ) → i < h → i * w + w ≤ h * w
+row_room i h w e = omega (arith, mul-le-mul_right {m = suc i} {n = h} w (omega arith), suc-mul i w)
+
+-- ---- the marks of a row
+marks_map : (w : ℕ) (l : List ℕ) → marks w l ≡ map mark_of (take w l)
 unfolding marks
-marks_length zero l h = refl
-marks_length (suc w) [] h = absurd (none w h)
-marks_length (suc w) (b ∷ l) h = ap suc (marks_length w l (omega arith))
+marks_map zero l = refl
+marks_map (suc w) [] = refl
+marks_map (suc w) (b ∷ l) = ap (λ (m : List ℕ). mark_of b ∷ m) (marks_map w l)
 
--- ---- the rows, one at a time
-module _ (s : List ℕ) (at w line : ℕ) where
-  pub rows_bad : (left : ℕ) → 0 < left → row_ok w (drop at s) ≡ false → BadRow line ≡ rows_of left w line (drop at s)
+map_length : (l : List ℕ) → length (map mark_of l) ≡ length l
+map_length [] = refl
+map_length (b ∷ l) = ap suc (map_length l)
+
+-- ---- the rows, one at a time: left rows are to come
+module _ (s : List ℕ) (w line : ℕ) where
+  pub rows_bad : (left n : ℕ) → left ≡ suc n → row_ok w s ≡ false → Err (bad_line line) ≡ rows_of left w line s
   unfolding rows_of
-  rows_bad zero z e = absurd (empty z)
-  rows_bad (suc n) z e = sym (ap (λ (t : Bool). cond t (rows_of n w (line + 1) (drop (w + 5) (drop at s))) (BadRow line)) e)
+  rows_bad left n z e =
+      sym (ap (λ (k : ℕ). rows_of k w line s) z ∙ ap (λ (t : Bool). cond t (rows_of n w (line + 1) (drop (w + 5) s)) (Err (bad_line line))) e)
 
-  pub rows_more : (left : ℕ) → 0 < left → row_ok w (drop at s) ≡ true → rows_of (left - 1) w (line + 1) (drop (at + (w + 5)) s) ≡ rows_of left w line (drop at s)
+  pub rows_more : (left n : ℕ) → left ≡ suc n → row_ok w s ≡ true → (q : List ℕ) → q ≡ drop (w + 5) s → rows_of n w (line + 1) q ≡ rows_of left w line s
   unfolding rows_of
-  rows_more zero z e = absurd (empty z)
-  rows_more (suc n) z e =
-      (λ j. rows_of (less_one n j) w (line + 1) (sym (drop-drop (w + 5) at s) j))
-      ∙ sym (ap (λ (t : Bool). cond t (rows_of n w (line + 1) (drop (w + 5) (drop at s))) (BadRow line)) e)
+  rows_more left n z e q d =
+      ap (rows_of n w (line + 1)) d
+      ∙ sym (ap (λ (k : ℕ). rows_of k w line s) z ∙ ap (λ (t : Bool). cond t (rows_of n w (line + 1) (drop (w + 5) s)) (Err (bad_line line))) e)
 
-  pub rows_rest : (left : ℕ) → left ≤ 0 → at < length s → BadRow line ≡ rows_of left w line (drop at s)
+  pub rows_rest : (left : ℕ) → left ≡ 0 → 0 < length s → Err (bad_line line) ≡ rows_of left w line s
   unfolding rows_of
-  rows_rest zero z h = sym (ap (rows_of 0 w line) (drop-cons s at 0 h))
-  rows_rest (suc n) z h = absurd (none n z)
+  rows_rest left z h = sym (ap (λ (k : ℕ). rows_of k w line s) z ∙ by s h)
+    where
+      by : (l : List ℕ) → 0 < length l → rows_of 0 w line l ≡ Err (bad_line line)
+      by [] e = absurd (never e)
+        where
+          never : 0 < 0 → ⊥
+          never e = omega arith
+      by (b ∷ l) e = refl
 
-  pub rows_good : (left : ℕ) → left ≤ 0 → length s ≤ at → Good ≡ rows_of left w line (drop at s)
+  pub rows_good : (left : ℕ) → left ≡ 0 → length s ≡ 0 → Ok tt ≡ rows_of left w line s
   unfolding rows_of
-  rows_good zero z h = sym (ap (rows_of 0 w line) (drop_of_length-le s h))
-  rows_good (suc n) z h = absurd (none n z)
+  rows_good left z h = sym (ap (λ (k : ℕ). rows_of k w line s) z ∙ by s h)
+    where
+      by : (l : List ℕ) → length l ≡ 0 → rows_of 0 w line l ≡ Ok tt
+      by [] e = refl
+      by (b ∷ l) e = absurd (never (length l) e)
+        where
+          never : (n : ℕ) → suc n ≡ 0 → ⊥
+          never n e = omega arith
 
-module _ (s : List ℕ) (at w : ℕ) (t : List ℕ) (cell : ℕ) where
-  pub cells_done : (left : ℕ) → left ≤ 0 → sets t cell (cells_of left w (drop at s)) ≡ t
+module _ (s : List ℕ) (w : ℕ) (t : List ℕ) (cell : ℕ) where
+  pub cells_done : (left : ℕ) → left ≡ 0 → sets t cell (cells_of left w s) ≡ t
   unfolding cells_of
-  cells_done zero z = refl
-  cells_done (suc n) z = absurd (none n z)
+  cells_done left z = ap (λ (k : ℕ). sets t cell (cells_of k w s)) z
 
-  pub cells_bad : (left : ℕ) → row_ok w (drop at s) ≡ false → sets t cell (cells_of left w (drop at s)) ≡ t
+  pub cells_bad : (left : ℕ) → row_ok w s ≡ false → sets t cell (cells_of left w s) ≡ t
   unfolding cells_of
   cells_bad zero e = refl
-  cells_bad (suc n) e = ap (λ (b : Bool). sets t cell (cond b (marks w (drop 4 (drop at s)) ++ cells_of n w (drop (w + 5) (drop at s))) [])) e
+  cells_bad (suc n) e = ap (λ (b : Bool). sets t cell (cond b (marks w (drop 4 s) ++ cells_of n w (drop (w + 5) s)) [])) e
 
-  -- a turn: new is the table after the row's marks
-  pub cells_more : (left : ℕ) (new : List ℕ) → 0 < left → row_ok w (drop at s) ≡ true → new ≡ sets t cell (marks w (drop (at + 4) s))
-      → sets new (cell + w) (cells_of (left - 1) w (drop (at + (w + 5)) s)) ≡ sets t cell (cells_of left w (drop at s))
+  -- a turn: new is the table after the row's marks, and then the place of the next row
+  pub cells_more : (left n : ℕ) → left ≡ suc n → row_ok w s ≡ true → (cells q new : List ℕ) (then : ℕ)
+      → cells ≡ take w (drop 4 s) → length cells ≡ w → q ≡ drop (w + 5) s → new ≡ sets t cell (map mark_of cells) → then ≡ cell + w
+      → sets new then (cells_of n w q) ≡ sets t cell (cells_of left w s)
   unfolding cells_of
-  cells_more zero new z e f = absurd (empty z)
-  cells_more (suc n) new z e f =
-      let M = marks w (drop (at + 4) s) in
-      let R = cells_of n w (drop (at + (w + 5)) s) in
-      let long = row_length s at w e in
-      let count : length M ≡ w = marks_length w (drop (at + 4) s) (omega (arith, long, length-drop (at + 4) s)) in
-      (λ j. sets (f j) (cell + sym count j) (cells_of (less_one n j) w (drop (at + (w + 5)) s)))
-      ∙ sym (sets_append t cell M R)
-      ∙ (λ j. sets t cell (marks w (sym (drop-drop 4 at s) j) ++ cells_of n w (sym (drop-drop (w + 5) at s) j)))
-      ∙ sym (ap (λ (b : Bool). sets t cell (cond b (marks w (drop 4 (drop at s)) ++ cells_of n w (drop (w + 5) (drop at s))) [])) e)
+  cells_more left n z e cells q new then c long d f p =
+      let R = cells_of n w (drop (w + 5) s) in
+      let m : map mark_of cells ≡ marks w (drop 4 s) = ap (map mark_of) c ∙ sym (marks_map w (drop 4 s)) in
+      let count : cell + w ≡ cell + length (map mark_of cells) = ap (λ (k : ℕ). cell + k) (sym (map_length cells ∙ long)) in
+      (λ j. sets (f j) ((p ∙ count) j) (cells_of n w (d j)))
+      ∙ sym (sets_append t cell (map mark_of cells) R)
+      ∙ ap (λ (l : List ℕ). sets t cell (l ++ R)) m
+      ∙ sym (ap (λ (k : ℕ). sets t cell (cells_of k w s)) z ∙ ap (λ (b : Bool). sets t cell (cond b (marks w (drop 4 s) ++ R) [])) e)

@@ -1,5 +1,5 @@
 -- The calls that search: the tests before each make its plan legal. Assumes nothing.
-use mathlib.Core.Path.{◌≡◌, refl, sym, ◌∙◌, subst}
+use mathlib.Core.Path.{ap, ◌≡◌, refl, sym, ◌∙◌, subst}
 use mathlib.Core.Bool.{Bool, true, false, cond, ◌&&◌}
 use mathlib.Core.List.{List}
 use Prim.Native.Nat.{ℕ, ◌+◌, ◌*◌, ◌^◌, ◌<◌, ◌≤◌, zero-le}
@@ -14,13 +14,11 @@ use Rattle.points.specs.declared.Refusal.{Refusal}
 use Rattle.points.specs.declared.Refusal.TheVariants.{Setting, NoRoute, BadPoint}
 use Rattle.points.specs.declared.Refusal.TheVariants as refusal
 use Rattle.costs.specs.declared.Settings.{Settings}
-use Rattle.goals.specs.declared.Listed.{Listed}
-use Rattle.goals.specs.declared.Listed.TheVariants as listed
-use Rattle.goals.specs.declared.Misplaced.{Misplaced}
-use Rattle.goals.specs.declared.Misplaced.TheVariants.{At, Nowhere}
+use Rattle.std.specs.Prelude.{Option, Some, None, Result, Ok, Err}
 use Rattle.goals.specs.declared.Goal.TheVariants.{Several}
 use Rattle.goals.specs.declared.Plan.{Plan}
-use Rattle.goals.specs.Goals.{count_of, bad_of}
+use Rattle.pairs.specs.Pairs.{first_bad}
+use Rattle.goals.specs.Goals.{count_of}
 use Rattle.offers.specs.Search.{State, Reply, found, refused, area_of}
 use Rattle.offers.specs.Passed.{pops_of}
 use Rattle.offers.proofs.Laws.{area_is}
@@ -31,14 +29,12 @@ use Rattle.components.proofs.Loops.{and_true}
 use Rattle.cells.specs.Cells.{sized_of, cell_of}
 use Rattle.cells.specs.Cells.{Sides}
 use Rattle.cells.proofs.Cell.{sides_of_lem}
-use Rattle.trails.specs.declared.Wrote.{Wrote}
-use Rattle.trails.specs.declared.Wrote.TheVariants.{Written, Room}
 use Rattle.trails.specs.Trail.{wrote_of}
 use Rattle.plans.specs.declared.Lengths.{Lengths}
-use Rattle.finder.specs.declared.Outcome.{Outcome}
-use Rattle.finder.specs.declared.Outcome.TheVariants.{Found, Refused}
+use Rattle.std.specs.Prelude.{Result, Ok, Err}
+use Rattle.finder.specs.declared.Found.{Found}
 use Rattle.finder.specs.Find as F
-use Rattle.finder.specs.Find.{Ground, tables_of, route_in, told_of, answer_of, started_of, started_in, pair_of, single_plan, several_plan}
+use Rattle.finder.specs.Find.{found_of, Ground, tables_of, route_in, told_of, answer_of, started_of, started_in, pair_of, single_plan, several_plan}
 use Rattle.plans.specs.Plans.{ready_of, barred_of, plan_of}
 use Rattle.finder.proofs.Laws as L
 use Rattle.grid.specs.Grids.{legal_of}
@@ -81,21 +77,21 @@ single_stems g links s l approximate start goal sides =
 several_stems : (g : Ground) (s : Settings) (l : Lengths) (start : Point) (goals : List ℤ) → Sides g.w g.h → Stems s (F.several_of g s l start goals)
 several_stems g s l start goals sides = ready (ready_of s l (g.w * g.h + 1)) refl
   where
-    placed : ready_of s l (g.w * g.h + 1) ≡ true → (n : ℕ) → listed.Goals n ≡ count_of (length goals) → legal start ≡ true → (q : Misplaced) → bad_of goals n 0 ≡ q → Stems s (F.several_of g s l start goals)
-    placed ea n ec eb (At q) e = stopped s (BadPoint q) _ (L.several_goals g s l start goals ea n ec eb q (sym e))
-    placed ea n ec eb Nowhere e =
+    placed : ready_of s l (g.w * g.h + 1) ≡ true → (n : ℕ) → Ok n ≡ count_of (length goals) → legal start ≡ true → (q : Option Point) → first_bad goals ≡ q → Stems s (F.several_of g s l start goals)
+    placed ea n ec eb (Some q) e = stopped s (BadPoint q) _ (L.several_goals g s l start goals ea n ec eb q (sym e))
+    placed ea n ec eb None e =
         let c = L.count_is (length goals) n ec in
         stems g goals (several_plan g.w g.h s start goals) _
         (subst (λ (m : ℕ). Legal goals (plan_of g.w g.h s (Several m) start)) c.0 (L.several_legal g.w g.h s l start sides ea eb goals n c.1.0 c.1.1 (sym e)))
         (L.several_open g s l start goals ea n ec eb (sym e))
 
-    started : ready_of s l (g.w * g.h + 1) ≡ true → (n : ℕ) → listed.Goals n ≡ count_of (length goals) → (b : Bool) → legal start ≡ b → Stems s (F.several_of g s l start goals)
+    started : ready_of s l (g.w * g.h + 1) ≡ true → (n : ℕ) → Ok n ≡ count_of (length goals) → (b : Bool) → legal start ≡ b → Stems s (F.several_of g s l start goals)
     started ea n ec false eb = stopped s (BadPoint start) _ (L.several_start g s l start goals ea n ec eb)
-    started ea n ec true eb = placed ea n ec eb (bad_of goals n 0) refl
+    started ea n ec true eb = placed ea n ec eb (first_bad goals) refl
 
-    counted : ready_of s l (g.w * g.h + 1) ≡ true → (c : Listed) → c ≡ count_of (length goals) → Stems s (F.several_of g s l start goals)
-    counted ea (listed.Refused w) ec = stopped s refusal.Goals _ (L.several_count g s l start goals ea w ec)
-    counted ea (listed.Goals n) ec = started ea n ec (legal start) refl
+    counted : ready_of s l (g.w * g.h + 1) ≡ true → (c : Result ℕ Refusal) → c ≡ count_of (length goals) → Stems s (F.several_of g s l start goals)
+    counted ea (Err w) ec = stopped s refusal.Goals _ (L.several_count g s l start goals ea w ec)
+    counted ea (Ok n) ec = started ea n ec (legal start) refl
 
     ready : (a : Bool) → ready_of s l (g.w * g.h + 1) ≡ a → Stems s (F.several_of g s l start goals)
     ready false ea = stopped s Setting _ (L.several_setting g s l start goals ea)
@@ -139,9 +135,9 @@ stems_cost : (s : Settings) (i k m : ℕ) (u : State) → Stems s (found i k m u
 stems_cost s i k m u (before w e) = let z : ◌≡◌ {A = ℕ} 0 1 = cc in absurd (omega arith)
 stems_cost s i k m u (searched t p start l h q e) = omega (arith, (search_ended t p start l h i k m u e).low, edges_low p l)
 
-route_pops : (n : ℕ) (o : Outcome) → (route_with n o).pops ≡ n
-route_pops n (Found k c) = refl
-route_pops n (Refused w) = refl
+route_pops : (n : ℕ) (o : Result Found Refusal) → (route_with n o).pops ≡ n
+route_pops n (Ok f) = refl
+route_pops n (Err w) = refl
 
 answer_pops : (room : ℕ) (r : Reply) → (answer_of room r).pops ≡ pops_of r
 unfolding answer_of
@@ -155,21 +151,21 @@ pops_of_calls c room =
     let a : (answer_of room (reply_to c)).pops ≤ (settings_in c).pops = omega (arith, l, answer_pops room (reply_to c)) in
     (a, omega (arith, a, route_pops (answer_of room (reply_to c)).pops (answer_of room (reply_to c)).outcome))
 
-told_cost : (c k n : ℕ) (w : Wrote) → told_of c w ≡ Found n k → c ≡ k
-told_cost c k n (Written m) e = cc
-told_cost c k n Room e = let z : ◌≡◌ {A = ℕ} 0 1 = cc in absurd (omega arith)
+told_cost : (c k n : ℕ) (w : Result ℕ Refusal) → told_of c w ≡ Ok (found_of n k) → c ≡ k
+told_cost c k n (Ok m) e = let z : found_of m c ≡ found_of n k = cc in ap (λ (x : Found). x.cost) z
+told_cost c k n (Err w) e = let z : ◌≡◌ {A = ℕ} 0 1 = cc in absurd (omega arith)
 
-answer_cost : (s : Settings) (room n k : ℕ) (r : Reply) → Stems s r → (answer_of room r).outcome ≡ Found n k → k < 2 ^ 31
+answer_cost : (s : Settings) (room n k : ℕ) (r : Reply) → Stems s r → (answer_of room r).outcome ≡ Ok (found_of n k) → k < 2 ^ 31
 unfolding answer_of
 answer_cost s room n k (found i c m u) a e = rw (← told_cost c k n (wrote_of room (route_in u i)) e) (stems_cost s i c m u a)
 answer_cost s room n k (refused w m) a e = let z : ◌≡◌ {A = ℕ} 0 1 = cc in absurd (omega arith)
 
-route_cost : (n : ℕ) (o : Outcome) → ((m k : ℕ) → o ≡ Found m k → k < 2 ^ 31) → (route_with n o).cost < 2 ^ 31
-route_cost n (Found m k) f = f m k refl
-route_cost n (Refused w) f = omega arith
+route_cost : (n : ℕ) (o : Result Found Refusal) → ((m k : ℕ) → o ≡ Ok (found_of m k) → k < 2 ^ 31) → (route_with n o).cost < 2 ^ 31
+route_cost n (Ok v) f = f v.length v.cost refl
+route_cost n (Err w) f = omega arith
 
 -- LAW: THE COST FOUND
 pub cost_of_calls : FoundBelow
 cost_of_calls c room =
-    let f : (n k : ℕ) → (answer_of room (reply_to c)).outcome ≡ Found n k → k < 2 ^ 31 = λ n k e. answer_cost (settings_in c) room n k (reply_to c) (every_call c) e in
+    let f : (n k : ℕ) → (answer_of room (reply_to c)).outcome ≡ Ok (found_of n k) → k < 2 ^ 31 = λ n k e. answer_cost (settings_in c) room n k (reply_to c) (every_call c) e in
     (f, route_cost (answer_of room (reply_to c)).pops (answer_of room (reply_to c)).outcome f)

@@ -6,9 +6,9 @@ use native.Mathlib.Omega.{arith}
 use lib.ListN.{length, get_or}
 use Rattle.bends.specs.Bends.{way_of}
 use Rattle.headings.specs.Headings.{heading_of}
-use Rattle.bends.specs.declared.Way.{Way}
-use Rattle.bends.specs.declared.Way.TheVariants.{Along, Still}
+use Rattle.std.specs.Prelude.{Option, Some, None}
 use Rattle.points.specs.declared.Point.{Point}
+use Rattle.points.specs.declared.Direction.{Direction}
 use Rattle.points.specs.declared.Refusal.TheVariants.{Depth, Same}
 use Rattle.masks.specs.Masks.{has_bit}
 use Rattle.goals.specs.declared.Plan.{Plan}
@@ -18,13 +18,11 @@ use Rattle.nodes.proofs.Laws.{by_eq}
 use Rattle.offers.proofs.Laws.{area_is}
 use Rattle.stops.specs.declared.Cell.{Cell}
 use Rattle.stops.specs.declared.Jump.{Jump}
-use Rattle.stops.specs.declared.Jump.TheVariants.{At, Nothing}
+use Rattle.std.specs.Prelude.{Option, Some, None}
 use Rattle.stops.specs.Stops.{Inside, spot_of, number_of, price_of}
 use Rattle.jumps.specs.Jumps.{jump_of}
 use Rattle.stops.proofs.Laws.{place_lt}
 use Rattle.jumps.proofs.Found.{jump_found}
-use Rattle.starts.specs.declared.Neighbour.{Neighbour}
-use Rattle.starts.specs.declared.Neighbour.TheVariants as neighbour
 use Rattle.expansion.specs.Expand.{Tables, reached, follow_with, travelled, expand_with, deeper_at, cell_of, leap_of}
 use Rattle.successors.specs.Successors.{again_at, give_of}
 use Rattle.expansion.specs.Start.{spread_of}
@@ -61,8 +59,10 @@ module _ (t : Tables) (p : Plan) (from : ℕ) (Q : Out → Type 0) (depth : Q (n
   module _ (m : ℕ) (deeper : Point → Cell → ℕ → State → Out)
       (made : (above : Point) (c : Cell) (k : ℕ) (s : State) → ((l : ℕ) → m ≡ suc l → Gives l c k) → Q (ok s) → Q (deeper above c k s)) where
     module _ (above : Point) (node : Cell) (base d : ℕ) (give : Gives m node base) where
-      reached_made : (e : ℕ) (s : State) (j : Jump) → jump_of t.blocked t.forced t.goals p e node (price_of d) ≡ j → Q (ok s) → Q (reached t p from (deeper above) base e s j)
-      reached_made e s (At c k) f q =
+      reached_made : (e : ℕ) (s : State) (j : Option Jump) → jump_of t.blocked t.forced t.goals p e node (price_of d) ≡ j → Q (ok s) → Q (reached t p from (deeper above) base e s j)
+      reached_made e s (Some j) f q =
+          let c = j.cell in
+          let k = j.cost in
           by_cond Q (again_at t.forced t.goals p e c) (deeper above c (base + k) s) (give_of t.goals p from c (base + k) s)
           (made above c (base + k) s (λ l z b sum u w x. give b sum u (subst (λ (n : ℕ). Comes t p n node base b sum) (sym z) (again d e f w)) x) q)
           (give c (base + k) s (jump d e f) q)
@@ -74,9 +74,9 @@ module _ (t : Tables) (p : Plan) (from : ℕ) (Q : Out → Type 0) (depth : Q (n
           by_cond Q (has_bit mask (e % 8)) (reached t p from (deeper above) base e s (jump_of t.blocked t.forced t.goals p e node (price_of d))) (ok s)
           (reached_made e s (jump_of t.blocked t.forced t.goals p e node (price_of d)) refl q) q
 
-    travel_made : (above : Point) (c : Cell) (k : ℕ) (s : State) → Gives m c k → Q (ok s) → (g : Way) → Q (travelled t p (follow_with t p from deeper) above c k s g)
-    travel_made above c k s give q (Along d) = by_each Q _ (λ e u x. follow_made above c k d.number give _ e u x) 8 0 s q
-    travel_made above c k s give q Still = same above
+    travel_made : (above : Point) (c : Cell) (k : ℕ) (s : State) → Gives m c k → Q (ok s) → (g : Option Direction) → Q (travelled t p (follow_with t p from deeper) above c k s g)
+    travel_made above c k s give q (Some d) = by_each Q _ (λ e u x. follow_made above c k d.number give _ e u x) 8 0 s q
+    travel_made above c k s give q None = same above
 
     expand_made : (above : Point) (c : Cell) (k : ℕ) (s : State) → Gives m c k → Q (ok s) → Q (expand_with t p (follow_with t p from deeper) above c k s)
     unfolding expand_with
@@ -93,9 +93,9 @@ unfolding spread_of leap_of toward_of give_of
 no_other t p i k s Q here depth same offer =
     by_eq i 0 (λ z. subst Q (yield_start t p i k s z) (spread_made z)) (λ z. subst Q (yield_leap t p i k s z) (leap_made z))
   where
-    toward : i ≡ 0 → (d : ℕ) (u : State) → Q (ok u) → (r : Neighbour) → neighbour_of t.blocked p d ≡ r → Q (offered_to t.goals p i (k + price_of d) u r)
-    toward z d u x (neighbour.At c) e = offer c (k + price_of d) u (step d z e) x
-    toward z d u x neighbour.Nothing e = x
+    toward : i ≡ 0 → (d : ℕ) (u : State) → Q (ok u) → (r : Option ℕ) → neighbour_of t.blocked p d ≡ r → Q (offered_to t.goals p i (k + price_of d) u r)
+    toward z d u x (Some c) e = offer c (k + price_of d) u (step d z e) x
+    toward z d u x None e = x
 
     toward_made : i ≡ 0 → (d : ℕ) (u : State) → Q (ok u) → Q (toward_of t.blocked t.goals p i k d u)
     toward_made z d u x = toward z d u x (neighbour_of t.blocked p d) refl

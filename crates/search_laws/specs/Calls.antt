@@ -1,6 +1,6 @@
 -- The calls that search, with any arguments: each is refused before searching or is the search of a legal plan, of which Costs.antt and Order.antt
 -- speak; its pops are at most the limit, and the cost that it found is below 2^31. Assumes nothing.
-use Rattle.std.specs.Prelude.{◌≡◌, Bool, List, ℕ, ◌<◌, ◌≤◌, ℤ}
+use Rattle.std.specs.Prelude.{◌≡◌, Bool, List, Ok, ℕ, ◌<◌, ◌≤◌, ℤ}
 use Rattle.points.specs.declared.Point.{Point}
 use Rattle.points.specs.declared.Refusal.{Refusal}
 use Rattle.costs.specs.declared.Settings.{Settings}
@@ -11,9 +11,8 @@ use Rattle.search.specs.Loop.{Legal, search_for}
 use Rattle.cells.specs.Cells.{Sides}
 use Rattle.finder.specs.declared.Answer.{Answer}
 use Rattle.plans.specs.declared.Lengths.{Lengths}
-use Rattle.finder.specs.declared.Outcome.TheVariants.{Found}
 use Rattle.finder.specs.Find as F
-use Rattle.finder.specs.Find.{Ground, answer_of}
+use Rattle.finder.specs.Find.{Ground, found_of, answer_of}
 use Rattle.grid.specs.declared.Grid.{Grid}
 use Rattle.waypoints.specs.Waypoints as W
 use Rattle.replies.specs.declared.Route.{Route}
@@ -70,4 +69,4 @@ PopsWithin = (c : Call) (room : ℕ) → ((answer_to c room).pops ≤ (settings_
 
 -- THE COST FOUND: the cost at the goal's pop, as an answer and as a host have it
 abbrev pub FoundBelow : Type 0
-FoundBelow = (c : Call) (room : ℕ) → ((n k : ℕ) → (answer_to c room).outcome ≡ Found n k → k < cost_limit) × ((route_to c room).cost < cost_limit)
+FoundBelow = (c : Call) (room : ℕ) → ((n k : ℕ) → (answer_to c room).outcome ≡ Ok (found_of n k) → k < cost_limit) × ((route_to c room).cost < cost_limit)

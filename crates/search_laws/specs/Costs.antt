@@ -1,6 +1,6 @@
 -- Every cost of a search is below 2^31: those that are recorded, those that wait in the fringe, and those that expanding a node sums, whether they
 -- are offered and recorded or not, expanded again or refused. Assumes nothing.
-use Rattle.std.specs.Prelude.{◌≡◌, ℕ, suc, ◌+◌, ◌^◌, ◌<◌, ◌≤◌, length, get_or}
+use Rattle.std.specs.Prelude.{◌≡◌, Some, ℕ, suc, ◌+◌, ◌^◌, ◌<◌, ◌≤◌, length, get_or}
 use Rattle.points.specs.declared.Point.{Point}
 use Rattle.points.specs.declared.Refusal.TheVariants.{Depth, Same}
 use Rattle.goals.specs.declared.Plan.{Plan}
@@ -9,10 +9,8 @@ use Rattle.fringe.specs.Order.{Each}
 use Rattle.nodes.specs.Nodes.{Nodes}
 use Rattle.offers.specs.Search.{State, Out, ok, no, offer_of, guess_at, area_of}
 use Rattle.stops.specs.declared.Cell.{Cell}
-use Rattle.stops.specs.declared.Jump.TheVariants.{At}
-use Rattle.stops.specs.Stops.{number_of, price_of}
+use Rattle.stops.specs.Stops.{landing, number_of, price_of}
 use Rattle.jumps.specs.Jumps.{jump_of}
-use Rattle.starts.specs.declared.Neighbour.TheVariants as neighbour
 use Rattle.expansion.specs.Expand.{Tables, cell_of}
 use Rattle.expansion.specs.Start.{yield_of}
 use Rattle.starts.specs.Start.{neighbour_of}
@@ -25,13 +23,13 @@ use Rattle.search_laws.specs.Replies.{PassedIn}
 -- any direction for its first step, or by a jump and what expanding again the cell c that it found comes to, the costs added. The cell of a jump is offered,
 -- or expanded again, or DEPTH is refused there; jumps that the rules do not make are counted too
 pub data Comes (t : Tables) (p : Plan) : ℕ → Cell → ℕ → Cell → ℕ → Type 0 where
-  jump : {m : ℕ} {from c : Cell} {base k : ℕ} (d e : ℕ) → jump_of t.blocked t.forced t.goals p e from (price_of d) ≡ At c k → Comes t p m from base c (base + k)
-  again : {m : ℕ} {from c b : Cell} {base k sum : ℕ} (d e : ℕ) → jump_of t.blocked t.forced t.goals p e from (price_of d) ≡ At c k → Comes t p m c (base + k) b sum
+  jump : {m : ℕ} {from c : Cell} {base k : ℕ} (d e : ℕ) → jump_of t.blocked t.forced t.goals p e from (price_of d) ≡ Some (landing c k) → Comes t p m from base c (base + k)
+  again : {m : ℕ} {from c b : Cell} {base k sum : ℕ} (d e : ℕ) → jump_of t.blocked t.forced t.goals p e from (price_of d) ≡ Some (landing c k) → Comes t p m c (base + k) b sum
       → Comes t p (suc m) from base b sum
 
 -- expanding the node i at the cost k comes to the cell numbered c: the start, which is node 0, by a step to a free neighbour, the others by their jumps
 pub data Reaches (t : Tables) (p : Plan) (s : Nodes) (i k : ℕ) : ℕ → ℕ → Type 0 where
-  step : {c : ℕ} (d : ℕ) → i ≡ 0 → neighbour_of t.blocked p d ≡ neighbour.At c → Reaches t p s i k c (k + price_of d)
+  step : {c : ℕ} (d : ℕ) → i ≡ 0 → neighbour_of t.blocked p d ≡ Some c → Reaches t p s i k c (k + price_of d)
   leap : {c : Cell} {sum : ℕ} → (i ≡ 0 → ⊥) → Comes t p p.settings.depth (cell_of p.w (get_or s.place i 0)) k c sum
       → Reaches t p s i k (number_of p.w c.x c.y) sum
 

@@ -3,296 +3,220 @@
 // What came of the search stands under it, in words.
 #![tactic(auto)]
 
+ghost use Rattle.std.specs.Prelude.{◌<◌, IfSome};
+
 use checks::Checked;
-use finder::{Answer, Outcome};
+use finder::{Answer, Found};
+use floors::MapRead;
 use grid::Grid;
-use legs::Bend;
 use points::{Point, Refusal};
-use prompt::EprintBytes;
+use prompt::{EprintBytes, Failure};
 use std::env::Env;
 use std::fs::Files;
-use std::io;
 use std::io::Read;
+use std::{fmt, io};
 
-// What became of standard output. Nothing is written yet, and one floor alone is to be (Alone) or several (Fresh); something is written (Begun);
-// or a write failed, which was told (Failed).
-#[derive(Clone, Copy)]
-enum Out {
-    Alone,
-    Fresh,
-    Begun,
-    Failed,
+const PROGRAM: &str = "show: ";
+
+// ---- a floor as it is drawn
+
+// A floor's cells, a byte each: free is 0 and blocked is 1 until something is drawn on them.
+#[derive(Drop)]
+struct Canvas {
+    cells: [u8; 4096],
+    width: usize,
+    height: usize,
 }
 
-// What became of standard output by a write; one that failed is told.
-fn written(rt: &impl EprintBytes, wrote: io::Result<()>) -> Out {
-    match wrote {
-        Ok(()) => Out::Begun,
-        Err(e) => {
-            prompt::fail(rt, b"show: ", b"standard output", e);
-            Out::Failed
+impl Canvas {
+    // The cell of a point, or None where the point is outside.
+    fn cell_at(&self, p: Point) -> Option<usize>
+        ensures { IfSome result (λ cell. cell < 4096) }
+    {
+        if !cells::sized(self.width, self.height) {
+            return None;
+        }
+        let cell = cells::cell_of(self.width, self.height, p);
+        if self.width * self.height <= cell {
+            return None;
+        }
+        Some(cell)
+    }
+
+    // Draws a mark at a point, where the point is inside.
+    fn put(&mut self, p: Point, mark: u8) {
+        if let Some(cell) = self.cell_at(p) {
+            self.cells[cell] = mark;
         }
     }
-}
 
-// Writes words, but none after a write that failed.
-fn say(rt: &(impl Print + EprintBytes), out: Out, words: &[u8]) -> Out {
-    if let Out::Failed = out {
-        return out;
-    }
-    written(rt, rt.write_all(words))
-}
-
-// Writes words and a number after them.
-fn say_number(rt: &(impl Print + EprintBytes), out: Out, words: &[u8], n: usize) -> Out {
-    let told = say(rt, out, words);
-    if let Out::Failed = told {
-        return told;
-    }
-    written(rt, rt.print(n))
-}
-
-// The cell of a point, or one past the largest floor where the point is outside.
-fn cell_at(w: usize, h: usize, p: Point) -> usize {
-    if !cells::sized(w, h) {
-        return 4096;
-    }
-    let c = cells::cell_of(w, h, p);
-    if w * h <= c {
-        return 4096;
-    }
-    c
-}
-
-// Draws a mark at a point, where the point is inside.
-fn put(canvas: &mut [u8], w: usize, h: usize, p: Point, mark: u8) {
-    let c = cell_at(w, h, p);
-    if c < canvas.len() {
-        canvas[c] = mark;
-    }
-}
-
-// Draws a mark at each point of a list that is inside.
-fn put_all(canvas: &mut [u8], w: usize, h: usize, list: &[i32], mark: u8) {
-    for k in 0..list.len() / 2 {
-        put(canvas, w, h, pairs::point_at(list, 2 * k), mark);
-    }
-}
-
-// A cell of the table as it is drawn; what is drawn on it stays.
-fn glyph(cell: u8) -> u8 {
-    match cell {
-        0 => b'.',
-        1 => b'#',
-        _ => cell,
-    }
-}
-
-// Draws the cells that nothing is drawn on.
-fn put_cells(canvas: &mut [u8]) {
-    for cell in canvas.iter_mut() {
-        *cell = glyph(*cell);
-    }
-}
-
-// The rows, a line each.
-fn say_rows(rt: &(impl Print + EprintBytes), out: Out, canvas: &[u8], w: usize, h: usize) -> Out {
-    let mut now = out;
-    let mut from: usize = 0;
-    for _ in 0..h {
-        let to = from.wrapping_add(w);
-        if to < from {
-            return now;
+    // Draws a mark at each point of a list that is inside.
+    fn put_all(&mut self, list: &[i32], mark: u8) {
+        let (pairs, _) = list.as_chunks::<2>();
+        for [x, y] in pairs {
+            self.put(Point { x: *x, y: *y }, mark);
         }
-        if canvas.len() < to {
-            return now;
-        }
-        now = say(rt, say(rt, now, &canvas[from..to]), b"\n");
-        from = to;
     }
-    now
+
+    // Draws the cells that nothing is drawn on.
+    fn put_cells(&mut self) {
+        for cell in self.cells.iter_mut() {
+            *cell = match *cell {
+                0 => b'.',
+                1 => b'#',
+                drawn => drawn,
+            };
+        }
+    }
+
+    // How an end of the way is drawn: with its letter, the small one on a blocked cell. None outside the floor.
+    fn letter(&self, p: Point, mark: u8) -> Option<u8> {
+        let cell = self.cell_at(p)?;
+        if self.cells[cell] == 0 {
+            Some(mark)
+        } else {
+            Some(mark.to_ascii_lowercase())
+        }
+    }
+
+    // Writes the rows, a line each.
+    fn say(&self, rt: &impl Print) -> io::Result<()> {
+        for row in self.cells.chunks(self.width.max(1)).take(self.height) {
+            rt.write_all(row)?;
+            rt.write_all(b"\n")?;
+        }
+        Ok(())
+    }
 }
+
+// ---- what came of a search, in words
 
 // Why there is no route.
-fn say_refusal(rt: &(impl Print + EprintBytes), out: Out, r: Refusal) -> Out {
-    match r {
-        Refusal::NoRoute => say(rt, out, b"no route: the start and the goal are not joined"),
-        Refusal::Exhausted => say(
-            rt,
-            out,
-            b"no route found: all that the search reaches was searched",
-        ),
-        Refusal::Depth => say(rt, out, b"refused: jumps nest deeper than the limit"),
-        Refusal::Fringe => say(rt, out, b"refused: more open cells than the limit"),
-        Refusal::Pops => say(rt, out, b"refused: more cells to look at than the limit"),
-        _ => say_number(rt, out, b"refused with number ", r.told().number as usize),
+#[derive(Drop)]
+struct NoRoute(Refusal);
+
+impl fmt::Display for NoRoute {
+    fn fmt<W: fmt::Write>(&self, f: &mut fmt::Formatter<W>) -> fmt::Result {
+        match self.0 {
+            Refusal::NoRoute => f.write_str("no route: the start and the goal are not joined"),
+            Refusal::Exhausted => {
+                f.write_str("no route found: all that the search reaches was searched")
+            }
+            Refusal::Depth => f.write_str("refused: jumps nest deeper than the limit"),
+            Refusal::Fringe => f.write_str("refused: more open cells than the limit"),
+            Refusal::Pops => f.write_str("refused: more cells to look at than the limit"),
+            other => write!(f, "refused with number {}", other.number()),
+        }
     }
 }
 
 // The first waypoints of a list; none where it holds fewer.
 fn first<'a>(list: &'a [i32], waypoints: usize) -> &'a [i32] {
-    if list.len() / 2 < waypoints {
-        return &list[..0];
-    }
-    let end = 2 * waypoints;
-    &list[..end]
+    list.get(..waypoints.saturating_mul(2)).unwrap_or(&[])
 }
 
+// Says that a way was found; it has one waypoint where the start is the goal.
+fn say_found(rt: &impl Print, waypoints: usize) -> io::Result<()> {
+    print!(rt; "found, waypoints: {waypoints}")?;
+    if waypoints == 1 {
+        print!(rt; ", the start is the goal")?;
+    }
+    Ok(())
+}
+
+// Says which leg of a way is the first that is bent, where the route check names one.
+fn say_bend(rt: &impl Print, checked: Result<Checked, Refusal>) -> io::Result<()> {
+    if let Ok(Checked { bent: Some(k), .. }) = checked {
+        let to = k.wrapping_add(1);
+        print!(rt; "\nfirst bent leg: {k}, from waypoint {k} to waypoint {to}")?;
+    }
+    Ok(())
+}
+
+// Says what came of a search on a grid, its waypoints at the front of the list.
+fn say_answer(rt: &impl Print, g: Grid, list: &[i32], answer: Answer) -> io::Result<()> {
+    match answer.outcome {
+        Ok(found) => {
+            say_found(rt, found.length)?;
+            say_bend(rt, checks::check_route(g, first(list, found.length)))?;
+        }
+        Err(r) => rt.print(NoRoute(r))?,
+    }
+    println!(rt; "\npops of the search: {}", answer.pops)
+}
+
+// Says what is to be known of an end of the way, by its letter.
+fn say_end(rt: &impl Print, who: &str, letter: Option<u8>) -> io::Result<()> {
+    match letter {
+        None => println!(rt; "{who} is outside the floor"),
+        Some(b'a'..=b'z') => println!(rt; "{who} is on a blocked cell"),
+        Some(_) => Ok(()),
+    }
+}
+
+// ---- what is shown
+
 // Draws a route that was found: its walk, and over it its waypoints. What is left of the two lists are points outside, which are drawn nowhere.
-fn put_route(canvas: &mut [u8], w: usize, h: usize, list: &[i32], outcome: Outcome) {
-    let Outcome::Found(n, _) = outcome else {
+fn put_route(canvas: &mut Canvas, list: &[i32], outcome: Result<Found, Refusal>) {
+    let Ok(found) = outcome else {
         return;
     };
     let mut path = [-1i32; 16384];
-    paths::waypoints_to_path(first(list, n), &mut path);
-    put_all(canvas, w, h, &path, b'*');
-    put_all(canvas, w, h, list, b'o');
-}
-
-// How an end of the way is drawn: with its letter, the small one on a blocked cell, and nowhere, as ?, outside the floor.
-fn letter(blocked: &[u8], w: usize, h: usize, p: Point, mark: u8) -> u8 {
-    let c = cell_at(w, h, p);
-    if blocked.len() <= c {
-        return b'?';
+    if paths::waypoints_to_path(first(list, found.length), &mut path).is_ok() {
+        canvas.put_all(&path, b'*');
     }
-    if blocked[c] == 0 {
-        return mark;
-    }
-    mark.wrapping_add(32)
+    canvas.put_all(list, b'o');
 }
 
 // The letter of the goal, which is drawn over the start.
 fn goal_mark(start: Point, goal: Point) -> u8 {
-    if start.x != goal.x {
-        return b'G';
-    }
-    if start.y != goal.y {
-        return b'G';
-    }
-    b'X'
+    if start == goal { b'X' } else { b'G' }
 }
 
-// Says what is to be known of an end of the way, by its letter.
-fn say_end(rt: &(impl Print + EprintBytes), out: Out, who: &[u8], letter: u8) -> Out {
-    if letter == b'?' {
-        return say(rt, say(rt, out, who), b" is outside the floor\n");
+// Draws an end of the way with its letter, where it is inside.
+fn put_end(canvas: &mut Canvas, p: Point, letter: Option<u8>) {
+    if let Some(mark) = letter {
+        canvas.put(p, mark);
     }
-    if letter < b'a' {
-        return out;
-    }
-    say(rt, say(rt, out, who), b" is on a blocked cell\n")
 }
 
-// Says that a way was found; it has one waypoint where the start is the goal.
-fn say_found(rt: &(impl Print + EprintBytes), out: Out, waypoints: usize) -> Out {
-    let told = say_number(rt, out, b"found, waypoints: ", waypoints);
-    if waypoints == 1 {
-        return say(rt, told, b", the start is the goal");
-    }
-    told
-}
-
-// Says which leg of a way is the first that is bent, where the route check names one.
-fn say_bend(rt: &(impl Print + EprintBytes), out: Out, checked: Checked) -> Out {
-    let Checked::Judged(_, bend) = checked else {
-        return out;
+// Searches on the map's grid, draws the way on its floor, and tells what came of it.
+fn draw(rt: &impl Print, m: MapRead) -> io::Result<()> {
+    let mut g = m.grid;
+    let _ = grid::generate_components(&mut g, m.diagonal);
+    let cells = g.blocked;
+    let mut canvas = Canvas {
+        cells,
+        width: g.width,
+        height: g.height,
     };
-    let Bend::Leg(k) = bend else {
-        return out;
-    };
-    let named = say_number(rt, out, b"\nfirst bent leg: ", k);
-    let from = say_number(rt, named, b", from waypoint ", k);
-    say_number(rt, from, b" to waypoint ", k.wrapping_add(1))
-}
-
-// What came of a search on a grid, its waypoints at the front of the list.
-fn say_answer(
-    rt: &(impl Print + EprintBytes),
-    out: Out,
-    g: Grid,
-    list: &[i32],
-    answer: Answer,
-) -> Out {
-    let outcome = answer.outcome;
-    let told = match outcome {
-        Outcome::Found(n, _) => say_bend(
-            rt,
-            say_found(rt, out, n),
-            checks::check_route(g, first(list, n)),
-        ),
-        Outcome::Refused(r) => say_refusal(rt, out, r),
-    };
-    say(
-        rt,
-        say_number(rt, told, b"\npops of the search: ", answer.pops),
-        b"\n",
-    )
-}
-
-// Searches, draws the way on a copy of the grid's cells, and tells what came of it.
-fn draw(
-    rt: &(impl Print + EprintBytes),
-    out: Out,
-    g: Grid,
-    diagonal: bool,
-    start: Point,
-    goal: Point,
-) -> Out {
-    let w = g.width;
-    let h = g.height;
-    let mut canvas = g.blocked;
-    let s = letter(&canvas, w, h, start, b'S');
-    let t = letter(&canvas, w, h, goal, goal_mark(start, goal));
+    let start = canvas.letter(m.start, b'S');
+    let goal = canvas.letter(m.goal, goal_mark(m.start, m.goal));
     let mut list = [-1i32; 8194];
-    let answer = router::searched(&mut list, g, diagonal, start, goal);
-    let outcome = answer.outcome;
-    put_route(&mut canvas, w, h, &list, outcome);
-    put(&mut canvas, w, h, start, s);
-    put(&mut canvas, w, h, goal, t);
-    put_cells(&mut canvas);
-    let drawn = say_rows(rt, out, &canvas, w, h);
-    let told = say_answer(rt, drawn, g, &list, answer);
-    say_end(rt, say_end(rt, told, b"the start", s), b"the goal", t)
+    let answer = router::searched(&mut list, g, m.diagonal, m.start, m.goal);
+    put_route(&mut canvas, &list, answer.outcome);
+    put_end(&mut canvas, m.start, start);
+    put_end(&mut canvas, m.goal, goal);
+    canvas.put_cells();
+    canvas.say(rt)?;
+    say_answer(rt, g, &list, answer)?;
+    say_end(rt, "the start", start)?;
+    say_end(rt, "the goal", goal)
 }
 
-// Writes the name of a file over its floor, where several are named, and an empty line between floors.
-fn say_name(rt: &(impl Print + EprintBytes), out: Out, name: &[u8]) -> Out {
-    let apart = match out {
-        Out::Alone => return out,
-        Out::Begun => say(rt, out, b"\n"),
-        _ => out,
-    };
-    say(rt, say(rt, apart, name), b"\n")
-}
-
-// Shows the map that an input gives.
-fn show_from(rt: &(impl Print + EprintBytes), out: Out, name: &[u8], input: &mut impl Read) -> Out {
-    let mut text = [0u8; 8193];
-    let n = prompt::read_full(input, &mut text);
-    let m = floors::read_map(&text[..n]);
-    let outcome = m.outcome;
-    if let grid::Outcome::Refused(_) = outcome {
-        prompt::tell_fault(rt, b"show: ", name, &text[..n]);
-        return out;
+// Writes the name of a file over its floor, after an empty line where something stands above.
+fn say_name(rt: &impl Print, name: &[u8], begun: bool) -> io::Result<()> {
+    if begun {
+        rt.write_all(b"\n")?;
     }
-    let rebuilt = grid::generate_components(m.grid, m.diagonal);
-    draw(
-        rt,
-        say_name(rt, out, name),
-        rebuilt.grid,
-        m.diagonal,
-        m.start,
-        m.goal,
-    )
+    rt.write_all(name)?;
+    rt.write_all(b"\n")
 }
 
-fn say_help(rt: &(impl Print + EprintBytes), out: Out) -> Out {
-    if let Out::Failed = out {
-        return out;
-    }
-    let wrote = prompt::help(
+fn say_help(rt: &impl Print) -> io::Result<()> {
+    prompt::help(
         rt,
-        b"show draws the floor of a map, with the way of a cart from its start to its goal.
+        "show draws the floor of a map, with the way of a cart from its start to its goal.
 
   show FILE...    the maps in these files, each under its name where there are several
   show            the map on standard input
@@ -304,34 +228,94 @@ Below stand what came of the search, the first bent leg if there is one (from a 
 but not in a straight line), and the pops of the search: the cells that it took up to look at.
 What is wrong with a map is said on standard error, and the other files are shown.
 ",
-    );
-    written(rt, wrote)
+    )
 }
 
-// Shows the map in the file that an argument names.
-fn show_file(rt: &(impl Env + Files + Print + EprintBytes), out: Out, i: usize) -> Out {
-    let mut path = [0u8; 4096];
-    let Some(length) = prompt::file_name(rt, b"show: ", i, &mut path) else {
-        return out;
-    };
-    let name = &path[..length];
-    if name == b"--help".as_slice() {
-        return say_help(rt, out);
+// What an argument asks for.
+#[derive(Drop)]
+enum Page {
+    Help,
+    Floor(MapRead),
+}
+
+// The map that an input gives, or None where it is no map, which is told.
+fn map_from(rt: &impl EprintBytes, name: &[u8], input: &mut impl Read) -> Option<MapRead> {
+    let mut room = [0u8; 8193];
+    let text = prompt::read_full(input, &mut room);
+    let m = floors::read_map(text);
+    if m.outcome.is_err() {
+        prompt::tell_fault(rt, PROGRAM, name, text);
+        return None;
     }
-    match prompt::open(rt, b"show: ", name) {
-        Some(mut file) => show_from(rt, out, name, &mut file),
-        None => out,
+    Some(m)
+}
+
+// The page that a name asks for, or None where its file holds no map, which is told.
+fn asked_for(rt: &(impl Files + EprintBytes), name: &[u8]) -> Option<Page> {
+    if name == b"--help".as_slice() {
+        return Some(Page::Help);
+    }
+    match prompt::open(rt, name) {
+        Ok(mut file) => map_from(rt, name, &mut file).map(Page::Floor),
+        Err(why) => {
+            prompt::tell(rt, PROGRAM, name, why);
+            None
+        }
+    }
+}
+
+// Writes a page; a floor under its name where several are named.
+fn show_page(
+    rt: &impl Print,
+    page: Page,
+    name: &[u8],
+    several: bool,
+    begun: bool,
+) -> io::Result<()> {
+    match page {
+        Page::Help => say_help(rt),
+        Page::Floor(m) => {
+            if several {
+                say_name(rt, name, begun)?;
+            }
+            draw(rt, m)
+        }
+    }
+}
+
+// Tells of a write on standard output that failed.
+fn tell_unwritten(rt: &impl EprintBytes, wrote: io::Result<()>) {
+    if let Err(e) = wrote {
+        prompt::tell(rt, PROGRAM, b"standard output", Failure::from(e));
+    }
+}
+
+// Shows what each argument asks for. After a write that failed nothing is written, and the maps are read alone, so that what is wrong with them is told.
+fn show_all(rt: &(impl Env + Files + Print + EprintBytes), count: usize) {
+    let mut wrote = Ok(());
+    let mut begun = false;
+    for i in 1..count {
+        let mut room = [0u8; 4096];
+        match prompt::file_name(rt, i, &mut room) {
+            Ok(name) => {
+                if let Some(page) = asked_for(rt, name)
+                    && wrote.is_ok()
+                {
+                    wrote = show_page(rt, page, name, 2 < count, begun);
+                    tell_unwritten(rt, wrote);
+                    begun = true;
+                }
+            }
+            Err(why) => prompt::tell(rt, PROGRAM, b"file name", why),
+        }
     }
 }
 
 fn main(rt: HostRuntime) {
-    let n = prompt::arg_count(&rt);
-    if n < 2 {
-        show_from(&rt, Out::Alone, b"standard input", &mut rt.stdin());
-        return;
-    }
-    let mut out = if n == 2 { Out::Alone } else { Out::Fresh };
-    for i in 1..n {
-        out = show_file(&rt, out, i);
+    let count = prompt::arg_count(&rt);
+    if 1 < count {
+        show_all(&rt, count);
+    } else if let Some(m) = map_from(&rt, b"standard input", &mut rt.stdin()) {
+        tell_unwritten(&rt, draw(&rt, m));
     }
 }

@@ -6,7 +6,7 @@ ghost use Rattle.sifts.specs.Sifts.{entry, entries, up, larger_of};
 
 // What the heap orders: the largest key is popped first; the index rides along.
 #[repr(C)]
-#[derive(Clone, Copy)]
+#[derive(Clone, Copy, PartialEq, Eq)]
 pub struct Entry {
     pub key: u64,
     pub index: u32,

@@ -18,8 +18,7 @@ use Rattle.offers.proofs.Laws.{area_is}
 use Rattle.offers.proofs.Good.{same_ok, offer_fit}
 use Rattle.stops.specs.Stops.{number_of, free_at, price_of}
 use Rattle.stops.proofs.Laws.{place_lt, free_inside}
-use Rattle.starts.specs.declared.Neighbour.{Neighbour}
-use Rattle.starts.specs.declared.Neighbour.TheVariants.{At, Nothing}
+use Rattle.std.specs.Prelude.{Option, Some, None}
 use Rattle.starts.specs.Start.{side_of, free_cell, neighbour_of, offered_to, toward_of}
 
 -- a coordinate is before the first column or row, or it is a number
@@ -35,17 +34,17 @@ side_on (pos n) e = refl
 side_on (negsuc n) e = absurd (true≢false e)
 
 -- a neighbour that is found is a cell
-free_cell_lt : (p : Plan) (x y c : ℕ) (blocked : List ℕ) (b : Bool) → free_at blocked p.w p.h x y ≡ b → cond b (At (number_of p.w x y)) Nothing ≡ At c → c < area_of p
+free_cell_lt : (p : Plan) (x y c : ℕ) (blocked : List ℕ) (b : Bool) → free_at blocked p.w p.h x y ≡ b → cond b (Some (number_of p.w x y)) None ≡ Some c → c < area_of p
 free_cell_lt p x y c blocked true e f =
     let z : number_of p.w x y ≡ c = cc in
     omega (arith, place_lt (free_inside blocked p.w p.h x y e), area_is p)
 free_cell_lt p x y c blocked false e f = let z : ◌≡◌ {A = ℕ} 0 1 = cc in absurd (omega arith)
 
-either_of : (b : Bool) (r : Neighbour) (c : ℕ) (X : Type 0) → (r ≡ At c → X) → cond b Nothing r ≡ At c → X
+either_of : (b : Bool) (r : Option ℕ) (c : ℕ) (X : Type 0) → (r ≡ Some c → X) → cond b None r ≡ Some c → X
 either_of true r c X f e = let z : ◌≡◌ {A = ℕ} 0 1 = cc in absurd (omega arith)
 either_of false r c X f e = f e
 
-pub neighbour_lt : (blocked : List ℕ) (p : Plan) (d c : ℕ) → neighbour_of blocked p d ≡ At c → c < area_of p
+pub neighbour_lt : (blocked : List ℕ) (p : Plan) (d c : ℕ) → neighbour_of blocked p d ≡ Some c → c < area_of p
 unfolding neighbour_of free_cell
 neighbour_lt blocked p d c e =
     let x = side_of (moved p.start d).x in
@@ -59,11 +58,11 @@ neighbour_is blocked p d at x y b e ex ey = rw (b, ex, ey, e)
 
 -- towards one neighbour, by what it is
 module _ (blocked : List ℕ) (goals : List ℤ) (p : Plan) (from k d : ℕ) (s : State) where
-  pub toward_none : Nothing ≡ neighbour_of blocked p d → ok s ≡ toward_of blocked goals p from k d s
+  pub toward_none : None ≡ neighbour_of blocked p d → ok s ≡ toward_of blocked goals p from k d s
   unfolding toward_of
   toward_none e = rw (← e)
 
-  pub toward_at : (c price : ℕ) → At c ≡ neighbour_of blocked p d → price ≡ price_of d → offer_of p.settings.fringe (guess_at goals p c) from c (k + price) s ≡ toward_of blocked goals p from k d s
+  pub toward_at : (c price : ℕ) → Some c ≡ neighbour_of blocked p d → price ≡ price_of d → offer_of p.settings.fringe (guess_at goals p c) from c (k + price) s ≡ toward_of blocked goals p from k d s
   unfolding toward_of
   toward_at c price e f = rw (← e, f)
 
@@ -72,9 +71,9 @@ module _ (blocked : List ℕ) (goals : List ℤ) (p : Plan) (from k d : ℕ) (s 
   unfolding toward_of
   toward_keeps P u x f e = by (neighbour_of blocked p d) refl e
     where
-      by : (r : Neighbour) → neighbour_of blocked p d ≡ r → offered_to goals p from (k + price_of d) s r ≡ ok u → P u
-      by (At c) q z = f c (neighbour_lt blocked p d c q) z
-      by Nothing q z = subst P (same_ok s u z) x
+      by : (r : Option ℕ) → neighbour_of blocked p d ≡ r → offered_to goals p from (k + price_of d) s r ≡ ok u → P u
+      by (Some c) q z = f c (neighbour_lt blocked p d c q) z
+      by None q z = subst P (same_ok s u z) x
 
 pub toward_fit : (blocked : List ℕ) (goals : List ℤ) (p : Plan) (from k d n : ℕ) → n ≡ area_of p + 1 → (s u : State) → Fit p.settings.fringe s → length s.nodes.number ≡ n → toward_of blocked goals p from k d s ≡ ok u → Fit p.settings.fringe u
 toward_fit blocked goals p from k d n floor s u f q e =

@@ -1,5 +1,6 @@
 -- The test of a state: it says yes exactly of a legal state. Assumes nothing.
-use mathlib.Core.Path.{◌≡◌, refl, sym, ◌∙◌}
+use Rattle.std.specs.List.{list_all, range_with_len}
+use mathlib.Core.Path.{◌≡◌, refl, sym}
 use mathlib.Core.Logic.{⊎_elim, inl, inr}
 use mathlib.Core.Bool.{Bool, true, false, ◌&&◌, ◌||◌}
 use mathlib.Core.List.{List}
@@ -22,10 +23,7 @@ or_right : (a b : Bool) → b ≡ true → a || b ≡ true
 or_right true b e = refl
 or_right false b e = e
 
--- a loop of tests: a turn that passes, and one that fails
-pub all_turn : (f : ℕ → Bool) (i : ℕ) (t : Bool) → all_to f i ≡ true → t ≡ f i → t ≡ true → all_to f (i + 1) ≡ true
-all_turn f i t e q p = rw (add-one, e) (sym q ∙ p)
-
+-- a loop of tests that stops at one that fails
 pub all_stop : (f : ℕ → Bool) (i : ℕ) → f i ≡ false → (n : ℕ) → i < n → all_to f n ≡ false
 all_stop f i e zero h = absurd (not-suc-le-zero h)
 all_stop f i e (suc n) h =
@@ -70,3 +68,15 @@ state_of n p k hp hk e =
 -- LAW: a legal state passes
 pub of_state : {b n : ℕ} {p k : List ℕ} → b ≤ 200 → Forest b n p k → state_ok n p k ≡ true
 of_state {b} {n} {p} {k} small F = all_of (cell_ok n p k) n (λ i h. of_cell n p k i (omega (arith, F.low i h)) (F.up i h))
+
+-- a chain of tests over the numbers from a on, where those below a pass
+pub all_range : (f : ℕ → Bool) (a d : ℕ) → all_to f a ≡ true → list_all f (range_with_len a d) ≡ all_to f (a + d)
+all_range f a zero e = let z : a + 0 ≡ a = omega arith in rw (z, e)
+all_range f a (suc d) e = go (f a) refl (λ t. all_range f (a + 1) d t)
+  where
+    end : (a + 1) + d ≡ a + suc d
+    end = omega arith
+
+    go : (t : Bool) → f a ≡ t → (all_to f (a + 1) ≡ true → list_all f (range_with_len (a + 1) d) ≡ all_to f ((a + 1) + d)) → f a && list_all f (range_with_len (a + 1) d) ≡ all_to f (a + suc d)
+    go true q ih = rw (q, ← end) (ih (rw (add-one, e) q))
+    go false q ih = rw q (sym (all_stop f a q (a + suc d) (omega arith)))

@@ -1,7 +1,7 @@
 // The test behind STATE, over lent slices: a cell's parent, and its rank.
 #![tactic(auto)]
 
-ghost use Rattle.std.specs.Prelude.{◌≡◌, true, ◌+◌, ◌≤◌, ◌<◌, ◌^◌, length, get_or};
+ghost use Rattle.std.specs.Prelude.{◌≡◌, ℕ, true, ◌+◌, ◌≤◌, ◌<◌, ◌^◌, length, get_or};
 ghost use Rattle.states.specs.States.{all_to, cell_ok, state_ok};
 ghost use Rattle.states.specs.Blocks.{Each, Near, NextRoot};
 
@@ -11,36 +11,22 @@ fn cell_ok(parent: &[u16], rank: &[u8], n: usize, i: usize) -> bool
     ensures { result ≡ cell_ok n parent.now rank.now i }
 {
     let low = rank[i];
-    if 200 < low {
-        return false;
-    }
-    let up = parent[i] as usize;
-    if up == i {
-        return true;
-    }
-    if n <= up {
-        return false;
-    }
-    let high = rank[up];
-    low < high
+    let up = usize::from(parent[i]);
+    low <= 200 && (up == i || up < n && low < rank[up])
 }
 
-// The highest rank of the 64 cells from `from` on: sixteen at once, once compiled.
-fn highest(rank: &[u8], from: usize) -> u8
-    requires { from + 64 ≤ length rank.now }
-    ensures { Each from 64 (λ i. get_or rank.now i 0 ≤ result) }
+// The highest rank of some cells: sixteen at once, once compiled.
+fn highest(rank: &[u8]) -> u8
+    ensures { (i : ℕ) → i < length rank.now → get_or rank.now i 0 ≤ result }
 {
     let mut top = 0;
-    for j in 0..64 {
-        let low = rank[from + j];
-        if top < low {
-            top = low;
-        }
+    for low in rank {
+        top = top.max(*low);
     }
     top
 }
 
-// Whether each of the 64 cells from `from` on is its own parent or, where `tied`, has the parent `root`. No early exit and no branch: eight cells at once, once compiled.
+// Whether each of the 64 cells from `from` on is its own parent or, where `tied`, has the parent `root`. No early exit: eight cells at once, once compiled.
 fn near(parent: &[u16], from: usize, root: u16, tied: bool) -> bool
     requires { (from + 64 ≤ length parent.now) × (from + 64 ≤ 2 ^ 16) }
     ensures { result ≡ true → Each from 64 (Near parent.now root tied) }
@@ -49,9 +35,7 @@ fn near(parent: &[u16], from: usize, root: u16, tied: bool) -> bool
     for j in 0..64 {
         let i = from + j;
         let up = parent[i];
-        let own = up == i as u16;
-        let under = up == root;
-        ok = ok & (own | (under & tied));
+        ok &= up == i as u16 || up == root && tied;
     }
     ok
 }
@@ -61,17 +45,12 @@ fn plain(parent: &[u16], rank: &[u8], n: usize, from: usize, root: usize) -> boo
     requires { (n ≤ length parent.now) × (n ≤ length rank.now) × (from + 64 ≤ n) × (from + 64 ≤ 2 ^ 16) × (root < n) × (root < 2 ^ 16) }
     ensures { result ≡ true → Each from 64 (λ i. cell_ok n parent.now rank.now i ≡ true) }
 {
-    let first = parent[from] as usize;
-    let far = (first != from) & (first != root);
-    if far {
+    let first = usize::from(parent[from]);
+    if first != from && first != root {
         return false;
     }
-    let top = highest(rank, from);
-    if 200 < top {
-        return false;
-    }
-    let high = rank[root];
-    near(parent, from, root as u16, top < high)
+    let top = highest(&rank[from..from + 64]);
+    top <= 200 && near(parent, from, root as u16, top < rank[root])
 }
 
 // Whether the cells up to `to` are legal, where those up to `from` are.
@@ -79,30 +58,22 @@ fn cells_ok(parent: &[u16], rank: &[u8], n: usize, from: usize, to: usize) -> bo
     requires { (n ≤ length parent.now) × (n ≤ length rank.now) × (from ≤ to) × (to ≤ n) × (all_to (cell_ok n parent.now rank.now) from ≡ true) }
     ensures { result ≡ all_to (cell_ok n parent.now rank.now) to }
 {
-    for i in from..to {
-        let ok = cell_ok(parent, rank, n, i);
-        if !ok {
-            return false;
-        }
-    }
-    true
+    (from..to).all(|i| cell_ok(parent, rank, n, i))
 }
 
-// The root to guess after the 64 cells from `from` on, or n where one of them is illegal. A block that is not plain is tested cell by cell, and its last parent is the new guess.
-fn next_root(parent: &[u16], rank: &[u8], n: usize, from: usize, root: usize) -> usize
+// The root to guess after the 64 cells from `from` on, or none where one of them is illegal. A block that is not plain is tested cell by cell, and its last parent is the new guess.
+fn next_root(parent: &[u16], rank: &[u8], n: usize, from: usize, root: usize) -> Option<usize>
     requires { (n ≤ length parent.now) × (n ≤ length rank.now) × (from + 64 ≤ n) × (from + 64 ≤ 2 ^ 16) × (root < n) × (root < 2 ^ 16)
         × (all_to (cell_ok n parent.now rank.now) from ≡ true) }
     ensures { NextRoot n parent.now rank.now (from + 64) result }
 {
-    let quick = plain(parent, rank, n, from, root);
-    if quick {
-        return root;
+    if plain(parent, rank, n, from, root) {
+        return Some(root);
     }
-    let ok = cells_ok(parent, rank, n, from, from + 64);
-    if ok {
-        return parent[from + 63] as usize;
+    if cells_ok(parent, rank, n, from, from + 64) {
+        return Some(usize::from(parent[from + 63]));
     }
-    n
+    None
 }
 
 // Whether the first n cells are a legal state: the test behind STATE. In blocks of 64 below 65536, where a cell's number is a u16 as its parent is.
@@ -110,15 +81,13 @@ pub fn state_ok(parent: &[u16], rank: &[u8], n: usize) -> bool
     requires { (n ≤ length parent.now) × (n ≤ length rank.now) }
     ensures { result ≡ state_ok n parent.now rank.now }
 {
-    let end = if n < 65536 { n } else { 65536 };
+    let blocks = n.min(65536) / 64;
     let mut root = 0;
-    let mut i = 0;
-    while i + 64 <= end {
-        root = next_root(parent, rank, n, i, root);
-        if n <= root {
+    for b in 0..blocks {
+        let Some(next) = next_root(parent, rank, n, 64 * b, root) else {
             return false;
-        }
-        i = i + 64;
+        };
+        root = next;
     }
-    cells_ok(parent, rank, n, i, n)
+    cells_ok(parent, rank, n, 64 * blocks, n)
 }

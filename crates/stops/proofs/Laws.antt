@@ -44,10 +44,14 @@ both_true : (a b : Bool) → both a b ≡ true → (a ≡ true) × (b ≡ true)
 both_true true b e = (refl, e)
 both_true false b e = absurd (true≢false (sym e))
 
-pub free_inside : (blocked : List ℕ) (w h x y : ℕ) → free_at blocked w h x y ≡ true → Within w h x y
-unfolding free_at within
-free_inside blocked w h x y e =
-    let f = both_true (both (leb 1 x) (leb x w)) (both (leb 1 y) (leb y h)) (both_true _ (eqb (byte_at blocked w x y) 0) e).0 in
+pub within_inside : (w h x y : ℕ) → within w h x y ≡ true → Within w h x y
+unfolding within
+within_inside w h x y e =
+    let f = both_true (both (leb 1 x) (leb x w)) (both (leb 1 y) (leb y h)) e in
     let g = both_true (leb 1 x) (leb x w) f.0 in
     let k = both_true (leb 1 y) (leb y h) f.1 in
     record { left = leb-true 1 x g.0; right = leb-true x w g.1; top = leb-true 1 y k.0; low = leb-true y h k.1 }
+
+pub free_inside : (blocked : List ℕ) (w h x y : ℕ) → free_at blocked w h x y ≡ true → Within w h x y
+unfolding free_at
+free_inside blocked w h x y e = within_inside w h x y (both_true _ (eqb (byte_at blocked w x y) 0) e).0

@@ -9,6 +9,11 @@ use Rattle.goals.specs.declared.Goal.TheVariants.{Exact, Near, Several}
 use Rattle.goals.specs.Goals.{most_side, both, either, point_of, goal_at}
 use Rattle.cells.specs.Cells.{cell_of}
 use Rattle.stops.specs.declared.Cell.{Cell}
+use Rattle.stops.specs.declared.Jump.{Jump}
+
+-- a jump of its parts: the cell where it stops, and its cost
+abbrev pub landing : Cell → ℕ → Jump
+landing c k = record { cell = c; cost = k }
 
 -- a table has a byte for each cell, and the sides are those that a grid may have
 pub record Sized (t : List ℕ) (w h : ℕ) : Type 0 where

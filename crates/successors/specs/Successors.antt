@@ -1,19 +1,17 @@
 -- What an expansion is made of: a node's parent, the directions that a mask lacks, when a cell is expanded again, and a successor that is offered.
 -- Assumes nothing: these are definitions.
-use Rattle.std.specs.Prelude.{◌≡◌, Bool, false, not, List, ℕ, zero, suc, ◌%◌, ◌≤◌, ◌<◌, eqb, ℤ, get_or}
+use Rattle.std.specs.Prelude.{◌≡◌, Bool, false, not, List, Option, Some, None, ℕ, zero, suc, ◌%◌, ◌≤◌, ◌<◌, eqb, ℤ, get_or}
 use Rattle.masks.specs.Masks.{has_bit}
 use Rattle.goals.specs.declared.Plan.{Plan}
 use Rattle.goals.specs.Goals.{both}
 use Rattle.offers.specs.Search.{State, Out, offer_of, guess_at}
 use Rattle.stops.specs.declared.Cell.{Cell}
 use Rattle.stops.specs.Stops.{number_of, stops_at}
-use Rattle.successors.specs.declared.Parent.{Parent}
-use Rattle.successors.specs.declared.Parent.TheVariants.{Node, Nothing}
 
 -- the recorded parent of a node; the start, which is node 0, has none
-abbrev pub parent_of : List ℕ → ℕ → Parent
-parent_of parent zero = Nothing
-parent_of parent (suc i) = Node (get_or parent (suc i) 0)
+abbrev pub parent_of : List ℕ → ℕ → Option ℕ
+parent_of parent zero = None
+parent_of parent (suc i) = Some (get_or parent (suc i) 0)
 
 -- a mask has none of the directions from `from` up to e
 pub record Clear (mask from e : ℕ) : Type 0 where

@@ -3,35 +3,36 @@
 
 ghost use Rattle.std.specs.Prelude.{◌≡◌, false, ◌*◌};
 ghost use Rattle.components.specs.Components.{Forest};
-ghost use Rattle.cells.specs.Cells.{Sides, Within};
 ghost use Rattle.tables.specs.Tables.{Room, new_of, edit_of};
 
+use cells::{Size, Spot};
+
 // A new grid: all free, its masks, singletons.
+#[tactic(auto, unfolding(crate::specs::Tables::new_of))]
 pub fn new(
-    w: usize,
-    h: usize,
+    size: Size,
     blocked: &mut [u8],
     neighbours: &mut [u8],
     forced: &mut [u8],
     parent: &mut [u16],
     rank: &mut [u8],
 )
-    requires { Sides w h × Room w h (record { blocked = blocked.old; masks = neighbours.old; forced = forced.old; parent = parent.old; rank = rank.old; dirty = false }) }
+    requires { Room size.w size.h (record { blocked = blocked.old; masks = neighbours.old; forced = forced.old; parent = parent.old; rank = rank.old; dirty = false }) }
     ensures { record { blocked = blocked.new; masks = neighbours.new; forced = forced.new; parent = parent.new; rank = rank.new; dirty = false }
-        ≡ new_of w h (record { blocked = blocked.old; masks = neighbours.old; forced = forced.old; parent = parent.old; rank = rank.old; dirty = false }) }
+        ≡ new_of size.w size.h (record { blocked = blocked.old; masks = neighbours.old; forced = forced.old; parent = parent.old; rank = rank.old; dirty = false }) }
 {
-    let n = w * h;
+    let n = size.area();
     fills::fill_zero(blocked, n);
-    fills::fill_masks(w, h, blocked, neighbours, n);
+    fills::fill_masks(size, blocked, neighbours);
     fills::fill_forced(neighbours, forced, n);
     fills::fill_ident(parent, n);
     fills::fill_zero(rank, n);
 }
 
 // `set`, of a grid in lent tables: the answer is the mark afterwards.
+#[tactic(auto, unfolding(crate::specs::Tables::edit_of))]
 pub fn edit(
-    w: usize,
-    h: usize,
+    at: Spot,
     diagonal: bool,
     dirty: bool,
     blocked: &mut [u8],
@@ -39,20 +40,16 @@ pub fn edit(
     forced: &mut [u8],
     parent: &mut [u16],
     rank: &mut [u8],
-    x: usize,
-    y: usize,
     b: bool,
 ) -> bool
-    requires { Within w h x y × Room w h (record { blocked = blocked.old; masks = neighbours.old; forced = forced.old; parent = parent.old; rank = rank.old; dirty = dirty }) × Forest 200 (w * h) parent.old rank.old }
+    requires { Room at.w at.h (record { blocked = blocked.old; masks = neighbours.old; forced = forced.old; parent = parent.old; rank = rank.old; dirty = dirty }) × Forest 200 (at.w * at.h) parent.old rank.old }
     ensures { record { blocked = blocked.new; masks = neighbours.new; forced = forced.new; parent = parent.new; rank = rank.new; dirty = result }
-        ≡ edit_of w h diagonal (record { blocked = blocked.old; masks = neighbours.old; forced = forced.old; parent = parent.old; rank = rank.old; dirty = dirty }) x y b }
+        ≡ edit_of at.w at.h diagonal (record { blocked = blocked.old; masks = neighbours.old; forced = forced.old; parent = parent.old; rank = rank.old; dirty = dirty }) at.x at.y b }
 {
-    let i = y * w + x;
-    if refresh::blocks_free(blocked, i, b) {
-        refresh::edit_cell(w, h, diagonal, blocked, neighbours, forced, x, y, b);
-        return true;
+    let marks = refresh::blocks_free(blocked, at.number(), b);
+    if !marks {
+        joins::join(at, blocked, parent, rank, joins::around(diagonal));
     }
-    joins::join_around(w, h, diagonal, blocked, parent, rank, x, y);
-    refresh::edit_cell(w, h, diagonal, blocked, neighbours, forced, x, y, b);
-    dirty
+    refresh::edit_cell(at, diagonal, blocked, neighbours, forced, b);
+    marks || dirty
 }

@@ -1,122 +1,65 @@
-// Numbers and points of a text: the reader. A text is a slice of bytes and a place in it; what was read comes with the count of its bytes.
+// Numbers and points of a text: the reader. A text is a slice of bytes; what was read of its front comes with the text after it.
 #![tactic(auto)]
 
-ghost use Rattle.std.specs.Prelude.{◌≡◌, ◌+◌, ◌≤◌, ◌<◌, length, drop};
-ghost use Rattle.text.specs.Grammar.{more_of, number_of, coord_of, pair_of};
+ghost use Rattle.std.specs.Prelude.{◌≤◌, ◌<◌, length, drop};
+ghost use Rattle.text.specs.Grammar.{Reads, more_of, number_of, coord_of, pair_of};
 
 use points::Point;
 
-// A number that was read, with the count of its bytes.
-#[derive(Clone, Copy)]
-pub enum Num {
-    Whole(u32, usize),
-    Wrong,
-}
-
-// A coordinate that was read, with the count of its bytes.
-#[derive(Clone, Copy)]
-pub enum Coord {
-    At(i32, usize),
-    Off,
-}
-
-// Two coordinates that were read, with the count of their bytes.
-#[derive(Clone, Copy)]
-pub enum Pair {
-    Both(Point, usize),
-    Neither,
-}
-
-fn wide(b: u8) -> u32
-    ensures { result ≡ b }
+// The digits after the first one of the text s, whose value is first.
+fn more(s: &[u8], limit: u32, first: u32) -> Option<(u32, &[u8])>
+    requires { (0 < length s.now) × (limit ≤ 1024) × (first ≤ limit) }
+    ensures { Reads s.now (more_of limit first 1 (drop 1 s.now)) result }
 {
-    b as u32
-}
-
-// The digits after the first one, which stands at start.
-fn more(s: &[u8], start: usize, limit: u32, first: u32) -> Num
-    requires { (start < length s.now) × (limit ≤ 1024) × (first ≤ limit) }
-    ensures { result ≡ more_of limit first 1 (drop (start + 1) s.now) }
-{
-    let mut acc = first;
-    let mut i = start + 1;
-    while i < s.len() {
+    let mut value = first;
+    for i in 1..s.len() {
         let b = s[i];
-        if b < 48 {
-            return Num::Whole(acc, i - start);
+        if !b.is_ascii_digit() {
+            return Some((value, &s[i..]));
         }
-        if 57 < b {
-            return Num::Whole(acc, i - start);
+        value = value * 10 + u32::from(b - b'0');
+        if limit < value {
+            return None;
         }
-        let next = acc * 10 + wide(b - 48);
-        if limit < next {
-            return Num::Wrong;
-        }
-        acc = next;
-        i += 1;
     }
-    Num::Whole(acc, i - start)
+    Some((value, &s[s.len()..]))
 }
 
 // A decimal number with no leading zero, at most limit.
-pub fn number(s: &[u8], at: usize, limit: u32) -> Num
+pub fn number(s: &[u8], limit: u32) -> Option<(u32, &[u8])>
     requires { (9 ≤ limit) × (limit ≤ 1024) }
-    ensures { result ≡ number_of limit (drop at s.now) }
+    ensures { Reads s.now (number_of limit s.now) result }
 {
-    if s.len() <= at {
-        return Num::Wrong;
+    let (&b, rest) = s.split_first()?;
+    if b == b'0' {
+        return Some((0, rest));
     }
-    let b = s[at];
-    if b == 48 {
-        return Num::Whole(0, 1);
+    if !b.is_ascii_digit() {
+        return None;
     }
-    if b < 48 {
-        return Num::Wrong;
-    }
-    if 57 < b {
-        return Num::Wrong;
-    }
-    more(s, at, limit, wide(b - 48))
+    more(s, limit, u32::from(b - b'0'))
 }
 
 // A coordinate.
-fn coordinate(s: &[u8], at: usize) -> Coord
-    ensures { result ≡ coord_of (drop at s.now) }
+fn coordinate(s: &[u8]) -> Option<(i32, &[u8])>
+    ensures { Reads s.now (coord_of s.now) result }
 {
-    if s.len() <= at {
-        return Coord::Off;
-    }
-    if s[at] == 45 {
-        let Num::Whole(v, used) = number(s, at + 1, 1024) else {
-            return Coord::Off;
-        };
-        if v == 0 {
-            return Coord::Off;
-        }
-        return Coord::At(0 - (v as i32), used + 1);
-    }
-    let Num::Whole(v, used) = number(s, at, 1023) else {
-        return Coord::Off;
+    let Some(digits) = s.strip_prefix(b"-") else {
+        let (v, rest) = number(s, 1023)?;
+        return Some((v as i32, rest));
     };
-    Coord::At(v as i32, used)
+    let (v, rest) = number(digits, 1024)?;
+    if v == 0 {
+        return None;
+    }
+    Some((-(v as i32), rest))
 }
 
 // Two coordinates with a comma between them.
-pub fn pair_at(s: &[u8], at: usize) -> Pair
-    ensures { result ≡ pair_of (drop at s.now) }
+pub fn pair(s: &[u8]) -> Option<(Point, &[u8])>
+    ensures { Reads s.now (pair_of s.now) result }
 {
-    let Coord::At(x, m) = coordinate(s, at) else {
-        return Pair::Neither;
-    };
-    let k = at + m;
-    if s.len() <= k {
-        return Pair::Neither;
-    }
-    if s[k] != 44 {
-        return Pair::Neither;
-    }
-    let Coord::At(y, n) = coordinate(s, k + 1) else {
-        return Pair::Neither;
-    };
-    Pair::Both(Point { x, y }, m + 1 + n)
+    let (x, rest) = coordinate(s)?;
+    let (y, rest) = coordinate(rest.strip_prefix(b",")?)?;
+    Some((Point { x, y }, rest))
 }

@@ -79,9 +79,10 @@ module _ (parent cost : List ℕ) (count : ℕ) (answer : List ℕ) where
     pub acc : List ℕ
     pub count_down : ℕ
     pub here : Climbing i count_down acc
-    pub back : j + count_down ≡ length answer
+    pub some : 1 ≤ j
+    pub back : j + count_down ≡ length answer + 1
     pub size : length out ≡ length out₀
-    pub wrote : out ≡ sets out₀ (2 * (j + 1)) (pairs p place acc)
+    pub wrote : out ≡ sets out₀ (2 * j) (pairs p place acc)
 
 -- a store below a run of stores
 set_sets : (l : List ℤ) (i k : ℕ) (a : ℤ) (vs : List ℤ) → i < k → set (sets l k vs) i a ≡ sets (set l i a) k vs
@@ -104,48 +105,50 @@ put_front l p j i place acc =
     ∙ set_sets (set l (2 * j) (place_point p (get_or place i 0)).x) (suc (2 * j)) (suc (suc (2 * j))) (place_point p (get_or place i 0)).y (pairs p place acc) h2)
 
 module _ (p : Plan) (place parent cost : List ℕ) (count : ℕ) (answer : List ℕ) (a : Climbs parent cost count) (out₀ : List ℤ) where
-  pub write_room : (out : List ℤ) (i j : ℕ) → Writing parent cost count answer p place out₀ out i j → 2 * length answer ≤ length out₀ → 2 * j + 1 < length out
-  write_room out i j x h = omega (arith, x.back, x.size, x.here.long)
+  -- while there are points to write before the last, the node is not the start
+  pub write_more : (out : List ℤ) (i j : ℕ) → Writing parent cost count answer p place out₀ out i j → 1 < j → 0 < i
+  write_more out zero j x h = let r = climb_end parent cost count answer zero x.count_down x.acc x.here (omega arith) in omega (arith, x.back, x.here.long, ap length r)
+  write_more out (suc i) j x h = omega arith
 
-  pub write_more : (out : List ℤ) (i j : ℕ) → Writing parent cost count answer p place out₀ out i j → 0 < i → 0 < j
-  write_more out i j x h = omega (arith, x.back, climb_more parent cost count answer i x.count_down x.acc a x.here h)
-
-  pub write_next : (out out' : List ℤ) (i j : ℕ) (q : Point) → Writing parent cost count answer p place out₀ out i j → 0 < i → q ≡ place_point p (get_or place i 0)
-      → out' ≡ set (set out (2 * j) q.x) (2 * j + 1) q.y → length out' ≡ length out
+  pub write_next : (out out' : List ℤ) (i j : ℕ) (q : Point) → Writing parent cost count answer p place out₀ out i j → 1 < j → q ≡ place_point p (get_or place i 0)
+      → out' ≡ set (set out (2 * (j - 1)) q.x) (2 * (j - 1) + 1) q.y → length out' ≡ length out
       → Writing parent cost count answer p place out₀ out' (get_or parent i 0) (j - 1)
   write_next out out' i j q x h is e l =
-      let m = write_more out i j x h in
       let z : j - 1 + 1 ≡ j = omega arith in
       record {
         acc = i ∷ x.acc;
         count_down = x.count_down + 1;
-        here = climb_next parent cost count answer a i x.count_down x.acc x.here h;
+        here = climb_next parent cost count answer a i x.count_down x.acc x.here (write_more out i j x h);
+        some = omega arith;
         back = omega (arith, x.back);
         size = l ∙ x.size;
         wrote = e
-            ∙ ap (λ (y : List ℤ). set (set y (2 * j) q.x) (2 * j + 1) q.y) x.wrote
-            ∙ ap (λ (u : Point). set (set (sets out₀ (2 * (j + 1)) (pairs p place x.acc)) (2 * j) u.x) (2 * j + 1) u.y) is
-            ∙ put_front out₀ p j i place x.acc
-            ∙ ap (λ (y : ℕ). sets out₀ (2 * y) (pairs p place (i ∷ x.acc))) (sym z);
+            ∙ ap (λ (y : List ℤ). set (set y (2 * (j - 1)) q.x) (2 * (j - 1) + 1) q.y) (x.wrote ∙ ap (λ (y : ℕ). sets out₀ (2 * y) (pairs p place x.acc)) (sym z))
+            ∙ ap (λ (u : Point). set (set (sets out₀ (2 * (j - 1 + 1)) (pairs p place x.acc)) (2 * (j - 1)) u.x) (2 * (j - 1) + 1) u.y) is
+            ∙ put_front out₀ p (j - 1) i place x.acc;
       }
 
-  pub write_end : (out out' : List ℤ) (i j : ℕ) (q : Point) → Writing parent cost count answer p place out₀ out i j → i ≤ 0 → q ≡ place_point p (get_or place 0 0)
+  pub write_end : (out out' : List ℤ) (i j : ℕ) (q : Point) → Writing parent cost count answer p place out₀ out i j → j ≤ 1 → q ≡ place_point p (get_or place 0 0)
       → out' ≡ set (set out 0 q.x) 1 q.y
       → out' ≡ sets out₀ 0 (pairs p place answer)
   write_end out out' i j q x h is e =
-      let r = climb_end parent cost count answer i x.count_down x.acc x.here h in
-      let z : j ≡ 0 = omega (arith, x.back, x.here.long, ap length r) in
+      let z : j ≡ 1 = omega (arith, x.some) in
+      let r = climb_end parent cost count answer i x.count_down x.acc x.here (last i (λ m. climb_more parent cost count answer i x.count_down x.acc a x.here m) (omega (arith, x.back))) in
       e
-      ∙ ap (λ (y : List ℤ). set (set y 0 q.x) 1 q.y) (x.wrote ∙ ap (λ (y : ℕ). sets out₀ (2 * (y + 1)) (pairs p place x.acc)) z)
+      ∙ ap (λ (y : List ℤ). set (set y 0 q.x) 1 q.y) (x.wrote ∙ ap (λ (y : ℕ). sets out₀ (2 * y) (pairs p place x.acc)) z)
       ∙ ap (λ (u : Point). set (set (sets out₀ 2 (pairs p place x.acc)) 0 u.x) 1 u.y) is
       ∙ put_front out₀ p 0 0 place x.acc
       ∙ ap (λ (y : List ℕ). sets out₀ 0 (pairs p place y)) r
+    where
+      last : {n m : ℕ} (i : ℕ) → (0 < i → n < m) → m ≤ n → i ≤ 0
+      last zero f l = omega arith
+      last (suc i) f l = absurd (omega (arith, f (omega arith)))
 
 module _ (parent cost : List ℕ) (count at : ℕ) (t : Tall cost count at) where
   pub climb_start : Climbing parent cost count (route_of parent (get_or cost at 0) at []) at 1 []
   climb_start =
       record { inside = t.inside; fuel = get_or cost at 0; enough = le_refl (get_or cost at 0); few = omega (arith, t.low); long = refl; same = refl }
 
-  pub write_start : (p : Plan) (place : List ℕ) (n : ℕ) (out : List ℤ) → 1 ≤ n → n ≡ length (route_of parent (get_or cost at 0) at []) → Writing parent cost count (route_of parent (get_or cost at 0) at []) p place out out at (n - 1)
+  pub write_start : (p : Plan) (place : List ℕ) (n : ℕ) (out : List ℤ) → 1 ≤ n → n ≡ length (route_of parent (get_or cost at 0) at []) → Writing parent cost count (route_of parent (get_or cost at 0) at []) p place out out at n
   unfolding pairs
-  write_start p place n out h e = record { acc = []; count_down = 1; here = climb_start; back = omega (arith, e); size = refl; wrote = refl }
+  write_start p place n out h e = record { acc = []; count_down = 1; here = climb_start; some = h; back = omega (arith, e); size = refl; wrote = refl }

@@ -1,10 +1,10 @@
 -- The waypoints of a found search. Assumes nothing.
-use Rattle.std.specs.Prelude.{cond, List, [], ◌∷◌, ℕ, zero, suc, ◌/◌, ◌^◌, ◌<◌, ◌≤◌, length, get_or, ℤ, eqb, ltb}
+use Rattle.std.specs.Prelude.{cond, List, [], Result, Ok, Err, ◌∷◌, ℕ, zero, suc, ◌/◌, ◌^◌, ◌<◌, ◌≤◌, length, get_or, ℤ, eqb, ltb}
 use Rattle.std.proofs.lemmas.List.Edits.{sets}
 use Rattle.goals.specs.declared.Plan.{Plan}
 use Rattle.offers.specs.Search.{area_of, place_point, Sides}
-use Rattle.trails.specs.declared.Wrote.{Wrote}
-use Rattle.trails.specs.declared.Wrote.TheVariants.{Written, Room}
+use Rattle.points.specs.declared.Refusal.{Refusal}
+use Rattle.points.specs.declared.Refusal.TheVariants.{Room}
 
 -- the recorded parents from node i back to the start, reversed, and then acc. The first number is enough turns: the cost of i is, since it falls along the parents.
 unfoldable pub route_of : List ℕ → ℕ → ℕ → List ℕ → List ℕ
@@ -17,8 +17,8 @@ pairs p place [] = []
 pairs p place (i ∷ l) = (place_point p (get_or place i 0)).x ∷ (place_point p (get_or place i 0)).y ∷ pairs p place l
 
 -- ROOM if the finished list has more points than the output holds
-unfoldable pub wrote_of : ℕ → List ℕ → Wrote
-wrote_of room r = cond (ltb (room / 2) (length r)) Room (Written (length r))
+unfoldable pub wrote_of : ℕ → List ℕ → Result ℕ Refusal
+wrote_of room r = cond (ltb (room / 2) (length r)) (Err Room) (Ok (length r))
 
 -- what the output holds then: the first pairs, and the rest as it was; all of it as it was if it is refused
 unfoldable pub left_in : List ℤ → Plan → List ℕ → List ℕ → List ℤ

@@ -6,26 +6,15 @@ ghost use Rattle.std.proofs.lemmas.List.Edits.{sets};
 ghost use Rattle.trails.specs.Trail.{Climbs, Located, Tall, route_of, pairs, wrote_of, left_in};
 
 use goals::Plan;
-use points::Point;
-
-// How many points were written, or that they are more than the room holds.
-#[derive(Clone, Copy)]
-pub enum Wrote {
-    Written(usize),
-    Room,
-}
+use points::{Point, Refusal};
 
 // Writes point number j.
 fn put(out: &mut [i32], j: usize, q: Point)
     requires { 2 * j + 1 < length out.old }
     ensures { out.new ≡ set (set out.old (2 * j) q.x) (2 * j + 1) q.y }
 {
-    let at = 2 * j;
-    let next = at + 1;
-    let x = q.x;
-    let y = q.y;
-    out[at] = x;
-    out[next] = y;
+    out[2 * j] = q.x;
+    out[2 * j + 1] = q.y;
 }
 
 // How many nodes there are from one back to the start.
@@ -57,18 +46,15 @@ fn write(
     ensures { out.new ≡ sets out.old 0 (pairs p place.now (route_of parent.now (get_or cost.now at 0) at [])) }
 {
     let mut i = at;
-    let mut j = n - 1;
-    while 0 < i {
+    for j in (1..n).rev() {
         let q = offers::place_point(p, place[i] as usize);
         put(out, j, q);
         i = parent[i] as usize;
-        j -= 1;
     }
-    let q = offers::place_point(p, place[0] as usize);
-    put(out, 0, q);
+    put(out, 0, offers::place_point(p, place[0] as usize));
 }
 
-// Writes the waypoints from the start to node `at` as pairs, if the output holds them all; the rest of it is kept.
+// Writes the waypoints from the start to node `at` as pairs, and answers how many, or ROOM where the output cannot hold them all; the rest of it is kept.
 pub fn write_route(
     place: &[u32],
     parent: &[u32],
@@ -77,14 +63,14 @@ pub fn write_route(
     count: usize,
     at: usize,
     out: &mut [i32],
-) -> Wrote
+) -> Result<usize, Refusal>
     requires { Located p place.now count × (Climbs parent.now cost.now count × Tall cost.now count at) }
     ensures { (result ≡ wrote_of (length out.old) (route_of parent.now (get_or cost.now at 0) at [])) × (out.new ≡ left_in out.old p place.now (route_of parent.now (get_or cost.now at 0) at [])) }
 {
     let n = steps(parent, cost, count, at);
     if out.len() / 2 < n {
-        return Wrote::Room;
+        return Err(Refusal::Room);
     }
     write(place, parent, cost, p, count, at, n, out);
-    Wrote::Written(n)
+    Ok(n)
 }

@@ -31,19 +31,12 @@ pub fn get_waypoints_single_goal(
     if !grid::legal(g) {
         return finder::refused(Refusal::State);
     }
-    let w = g.width;
-    let h = g.height;
-    let blocked = g.blocked;
-    let neighbours = g.neighbours;
-    let forced = g.forced;
-    let links = g.parent;
-    let ranks = g.rank;
     finder::single_goal(
-        &blocked,
-        &neighbours,
-        &forced,
-        &links,
-        &ranks,
+        &g.blocked,
+        &g.neighbours,
+        &g.forced,
+        &g.parent,
+        &g.rank,
         number,
         place,
         parent,
@@ -51,8 +44,8 @@ pub fn get_waypoints_single_goal(
         keys,
         idx,
         out,
-        w,
-        h,
+        g.width,
+        g.height,
         s,
         start,
         goal,
@@ -80,15 +73,10 @@ pub fn get_waypoints_multiple_goals(
     if !grid::legal(g) {
         return finder::refused(Refusal::State);
     }
-    let w = g.width;
-    let h = g.height;
-    let blocked = g.blocked;
-    let neighbours = g.neighbours;
-    let forced = g.forced;
     finder::multiple_goals(
-        &blocked,
-        &neighbours,
-        &forced,
+        &g.blocked,
+        &g.neighbours,
+        &g.forced,
         goals,
         number,
         place,
@@ -97,8 +85,8 @@ pub fn get_waypoints_multiple_goals(
         keys,
         idx,
         out,
-        w,
-        h,
+        g.width,
+        g.height,
         s,
         start,
     )

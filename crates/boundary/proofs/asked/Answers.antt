@@ -1,16 +1,10 @@
--- `boundary::asked` meets its contract, test by test. Assumes nothing.
-use mathlib.Core.Path.{sym, ◌∙◌}
+-- `boundary::asked` is safe: its sides were tested. Assumes nothing.
+use mathlib.Core.Path.{sym}
 use Rattle.boundary.proofs.Lent as L
 use Rattle.boundary.proofs.asked.Goals as goal
 
-pub returns-then-not-linked : goal.returns-then-not-linked
-returns-then-not-linked c = c.refused_as.ensures ∙ L.asked_state c.args.w c.args.h c.args.parent.now c.args.rank.now c.args.start c.args.goal (sym c.linked.ensures ∙ c.if-not-linked.true)
+pub cell_of-requires : goal.cell_of-requires
+cell_of-requires c = let z = L.of_links c.args.w c.args.h c.args.parent.now c.args.rank.now (sym c.if-not-linked.ensures) in (z.sides.wide, z.sides.high)
 
-pub returns-then-not-legal : goal.returns-then-not-legal
-returns-then-not-legal c = L.asked_start c.args.w c.args.h c.args.parent.now c.args.rank.now c.args.start c.args.goal (sym c.linked.ensures ∙ c.if-not-linked.false) (sym c.legal.ensures ∙ c.if-not-legal.true)
-
-pub returns-then-not-legal-2 : goal.returns-then-not-legal-2
-returns-then-not-legal-2 c = L.asked_goal c.args.w c.args.h c.args.parent.now c.args.rank.now c.args.start c.args.goal (sym c.linked.ensures ∙ c.if-not-linked.false) (sym c.legal.ensures ∙ c.if-not-legal.false) (sym c.legal-2.ensures ∙ c.if-not-legal-2.true)
-
-pub returns : goal.returns
-returns c = L.asked_done c.args.w c.args.h c.args.parent.now c.args.rank.now c.args.start c.args.goal (sym c.linked.ensures ∙ c.if-not-linked.false) (sym c.legal.ensures ∙ c.if-not-legal.false) (sym c.legal-2.ensures ∙ c.if-not-legal-2.false)
+pub cell_of-requires-2 : goal.cell_of-requires-2
+cell_of-requires-2 c = let z = L.of_links c.args.w c.args.h c.args.parent.now c.args.rank.now (sym c.if-not-linked.ensures) in (z.sides.wide, z.sides.high)

@@ -1,21 +1,10 @@
--- `boundary::barnsling_rebuild` meets its contract: STATE, then the rebuild. Assumes nothing.
-use mathlib.Core.Path.{sym, ◌∙◌}
-use Rattle.packing.specs.Packing.{flag_of}
+-- `boundary::barnsling_rebuild` is safe: links that were tested have room. Assumes nothing.
+use mathlib.Core.Path.{sym}
 use Rattle.boundary.proofs.Lent as L
 use Rattle.boundary.proofs.barnsling_rebuild.Goals as goal
 
-pub returns-then-not-grounded : goal.returns-then-not-grounded
-returns-then-not-grounded c =
-    let a = c.args in
-    L.rebuild_refused a.w a.h a.blocked.now a.parent.now a.rank.now (flag_of a.diagonal) _ (sym c.grounded.ensures ∙ c.if-not-grounded.true) c.refused_as.ensures
+pub invariant_of-rebuild : goal.invariant_of-rebuild
+invariant_of-rebuild c = record { sides = (L.of_ground c.args.w c.args.h c.args.blocked.now c.args.parent.now c.args.rank.now (sym c.if-not-grounded.ensures)).linked.sides }
 
 pub rebuild-requires : goal.rebuild-requires
-rebuild-requires c =
-    let a = c.args in
-    let z = L.of_ground a.w a.h a.blocked.now a.parent.now a.rank.now (sym c.grounded.ensures ∙ c.if-not-grounded.false) in
-    (z.linked.sides, z.table, z.linked.forest.in_p, z.linked.forest.in_k)
-
-pub returns : goal.returns
-returns c =
-    let a = c.args in
-    L.rebuild_done a.w a.h a.blocked.now a.parent.now a.rank.now _ (flag_of a.diagonal) c.flag.ensures _ _ (sym c.grounded.ensures ∙ c.if-not-grounded.false) c.rebuild.ensures
+rebuild-requires c = let z = L.of_ground c.args.w c.args.h c.args.blocked.now c.args.parent.now c.args.rank.now (sym c.if-not-grounded.ensures) in (z.table, z.linked.forest.in_p, z.linked.forest.in_k)

@@ -1,25 +1,10 @@
--- `boundary::barnsling_unreachable` meets its contract: the tests, then the question. Assumes nothing.
+-- `boundary::barnsling_unreachable` is safe: links that were tested are a forest. Assumes nothing.
 use native.Mathlib.Omega.{arith}
-use mathlib.Core.Path.{◌≡◌}
-use mir.Facts.{to_z-of_z}
-use Rattle.packing.specs.Packing.{point_of}
 use Rattle.boundary.proofs.Lent as L
 use Rattle.boundary.proofs.barnsling_unreachable.Goals as goal
 
-pub returns-then-t-ne0 : goal.returns-then-t-ne0
-returns-then-t-ne0 c = let es : c.point-start.result ≡ point_of c.args.sx c.args.sy = simp (to_z-of_z c.ranges.sx, to_z-of_z c.ranges.sy) at c.point-start.ensures in let eg : c.point-goal.result ≡ point_of c.args.gx c.args.gy = simp (to_z-of_z c.ranges.gx, to_z-of_z c.ranges.gy) at c.point-goal.ensures in L.unreachable_refused c.args.w c.args.h c.args.parent.now c.args.rank.now (point_of c.args.sx c.args.sy) (point_of c.args.gx c.args.gy) c.point-start.result c.point-goal.result c.asked-t.result es eg c.asked-t.ensures c.if-t-ne0.true
-
-pub cell_of-a-requires : goal.cell_of-a-requires
-cell_of-a-requires c = let es : c.point-start.result ≡ point_of c.args.sx c.args.sy = simp (to_z-of_z c.ranges.sx, to_z-of_z c.ranges.sy) at c.point-start.ensures in let eg : c.point-goal.result ≡ point_of c.args.gx c.args.gy = simp (to_z-of_z c.ranges.gx, to_z-of_z c.ranges.gy) at c.point-goal.ensures in let z = L.asked_linked c.args.w c.args.h c.args.parent.now c.args.rank.now (point_of c.args.sx c.args.sy) (point_of c.args.gx c.args.gy) c.point-start.result c.point-goal.result c.asked-t.result es eg c.asked-t.ensures c.if-t-ne0.false in (z.sides.wide, z.sides.high)
-
-pub cell_of-c-requires : goal.cell_of-c-requires
-cell_of-c-requires c = let es : c.point-start.result ≡ point_of c.args.sx c.args.sy = simp (to_z-of_z c.ranges.sx, to_z-of_z c.ranges.sy) at c.point-start.ensures in let eg : c.point-goal.result ≡ point_of c.args.gx c.args.gy = simp (to_z-of_z c.ranges.gx, to_z-of_z c.ranges.gy) at c.point-goal.ensures in let z = L.asked_linked c.args.w c.args.h c.args.parent.now c.args.rank.now (point_of c.args.sx c.args.sy) (point_of c.args.gx c.args.gy) c.point-start.result c.point-goal.result c.asked-t.result es eg c.asked-t.ensures c.if-t-ne0.false in (z.sides.wide, z.sides.high)
-
 pub overflow_mul-w : goal.overflow_mul-w
-overflow_mul-w c = let es : c.point-start.result ≡ point_of c.args.sx c.args.sy = simp (to_z-of_z c.ranges.sx, to_z-of_z c.ranges.sy) at c.point-start.ensures in let eg : c.point-goal.result ≡ point_of c.args.gx c.args.gy = simp (to_z-of_z c.ranges.gx, to_z-of_z c.ranges.gy) at c.point-goal.ensures in let z = L.asked_linked c.args.w c.args.h c.args.parent.now c.args.rank.now (point_of c.args.sx c.args.sy) (point_of c.args.gx c.args.gy) c.point-start.result c.point-goal.result c.asked-t.result es eg c.asked-t.ensures c.if-t-ne0.false in omega (arith, z.cells)
+overflow_mul-w c = let z = L.of_asked c.args.w c.args.h c.args.parent.now c.args.rank.now c.point.result c.point-2.result _ c.in-Ok.ensures in omega (arith, z.cells)
 
 pub unreachable-requires : goal.unreachable-requires
-unreachable-requires c = let es : c.point-start.result ≡ point_of c.args.sx c.args.sy = simp (to_z-of_z c.ranges.sx, to_z-of_z c.ranges.sy) at c.point-start.ensures in let eg : c.point-goal.result ≡ point_of c.args.gx c.args.gy = simp (to_z-of_z c.ranges.gx, to_z-of_z c.ranges.gy) at c.point-goal.ensures in let z = L.asked_linked c.args.w c.args.h c.args.parent.now c.args.rank.now (point_of c.args.sx c.args.sy) (point_of c.args.gx c.args.gy) c.point-start.result c.point-goal.result c.asked-t.result es eg c.asked-t.ensures c.if-t-ne0.false in z.forest
-
-pub returns : goal.returns
-returns c = let es : c.point-start.result ≡ point_of c.args.sx c.args.sy = simp (to_z-of_z c.ranges.sx, to_z-of_z c.ranges.sy) at c.point-start.ensures in let eg : c.point-goal.result ≡ point_of c.args.gx c.args.gy = simp (to_z-of_z c.ranges.gx, to_z-of_z c.ranges.gy) at c.point-goal.ensures in L.unreachable_done c.args.w c.args.h c.args.parent.now c.args.rank.now (point_of c.args.sx c.args.sy) (point_of c.args.gx c.args.gy) c.point-start.result c.point-goal.result c.asked-t.result es eg c.asked-t.ensures c.if-t-ne0.false c.cell_of-a.result c.cell_of-c.result _ c.unreachable.result c.cell_of-a.ensures c.cell_of-c.ensures c.mark.ensures c.unreachable.ensures
+unreachable-requires c = (L.of_asked c.args.w c.args.h c.args.parent.now c.args.rank.now c.point.result c.point-2.result _ c.in-Ok.ensures).forest

@@ -1,35 +1,39 @@
--- `checks::clear` meets its contract: the path from here on is as free as the whole. The measure is the numbers that are left. Assumes nothing.
-use Rattle.checks.proofs.Laws.{clear_begin, clear_end, clear_more}
+-- `checks::clear` meets its contract: the path from here on is as free as the whole. Assumes nothing.
+use Rattle.std.proofs.Common.{◌*◌, true, false, sym, ◌∙◌, arith}
 use Rattle.pairs.proofs.Laws.{legal_here, none_bad}
-use native.Mathlib.Omega.{arith}
-use mathlib.Core.Path.{refl, sym, ◌∙◌}
-use mathlib.Core.Bool.{true, false}
+use Rattle.checks.proofs.Laws.{clear_begin, clear_end, clear_more}
 use Rattle.checks.proofs.clear.Goals as goal
 
-pub loop-i-init : goal.loop-i-init
-loop-i-init c =
+pub loop-k-init : goal.loop-k-init
+loop-k-init c =
     let l = c.args.list.now in
     let n = none_bad l 0 (omega arith) c.requires.5 in
-    (legal_here l 0 c.point_at-p.result c.point_at-p.ensures n.0, n.1, refl, omega arith, clear_begin c.args.w c.args.h c.args.blocked.now l c.point_at-p.result c.point_at-p.ensures (omega arith))
+    (legal_here l 0 c.point_at-p.result c.point_at-p.ensures n.0, n.1, clear_begin c.args.w c.args.h c.args.blocked.now l c.point_at-p.result c.point_at-p.ensures (omega arith))
 
 pub leg_clear-requires : goal.leg_clear-requires
 leg_clear-requires c =
     let l = c.args.list.now in
-    (c.requires.0, c.requires.1, c.requires.2, c.loop-i.invariant.0, legal_here l c.loop-i.i c.point_at-q.result c.point_at-q.ensures (none_bad l c.loop-i.i (omega arith) c.loop-i.invariant.1).0)
+    let k = c.loop-k.k in
+    (c.requires.0, c.requires.1, c.requires.2, c.loop-k.invariant.0, legal_here l (2 * k) c.point_at-q.result c.point_at-q.ensures (none_bad l k (omega arith) c.loop-k.invariant.1).0)
 
 pub returns-then-not-leg_clear : goal.returns-then-not-leg_clear
 returns-then-not-leg_clear c =
     let a = c.args in
-    sym (clear_more a.w a.h a.blocked.now a.list.now c.loop-i.i c.loop-i.p c.point_at-q.result false c.point_at-q.ensures (omega arith) (sym (c.if-not-leg_clear.true) ∙ c.leg_clear.ensures)) ∙ c.loop-i.invariant.4
+    clear_more a.w a.h a.blocked.now a.list.now c.loop-k.k c.loop-k.p c.point_at-q.result false c.point_at-q.ensures (omega arith) (sym c.if-not-leg_clear.true ∙ c.leg_clear.ensures)
+    ∙ c.loop-k.invariant.2
 
-pub loop-i-preserved : goal.loop-i-preserved
-loop-i-preserved c =
+pub loop-k-preserved : goal.loop-k-preserved
+loop-k-preserved c =
     let a = c.args in
     let l = a.list.now in
-    let n = none_bad l c.loop-i.i (omega arith) c.loop-i.invariant.1 in
-    (legal_here l c.loop-i.i c.point_at-q.result c.point_at-q.ensures n.0, n.1, omega arith, omega arith, sym (clear_more a.w a.h a.blocked.now l c.loop-i.i c.loop-i.p c.point_at-q.result true c.point_at-q.ensures (omega arith) (sym (c.if-not-leg_clear.false) ∙ c.leg_clear.ensures)) ∙ c.loop-i.invariant.4)
+    let k = c.loop-k.k in
+    let n = none_bad l k (omega arith) c.loop-k.invariant.1 in (
+      legal_here l (2 * k) c.point_at-q.result c.point_at-q.ensures n.0,
+      n.1,
+      clear_more a.w a.h a.blocked.now l k c.loop-k.p c.point_at-q.result true c.point_at-q.ensures (omega arith) (sym c.if-not-leg_clear.false ∙ c.leg_clear.ensures) ∙ c.loop-k.invariant.2,
+    )
 
 pub returns : goal.returns
 returns c =
     let a = c.args in
-    sym (clear_end a.w a.h a.blocked.now a.list.now c.loop-i.i c.loop-i.p c.loop-i-test.false) ∙ c.loop-i.invariant.4
+    sym (clear_end a.w a.h a.blocked.now a.list.now c.loop-k.k c.loop-k.p (omega arith)) ∙ c.loop-k.invariant.2

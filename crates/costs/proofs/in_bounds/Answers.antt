@@ -7,6 +7,6 @@ pub returns-then-factor : goal.returns-then-factor
 unfolding of_bits in_bounds
 returns-then-factor c = rw c.if-factor.true
 
-pub returns : goal.returns
+pub returns-else-factor : goal.returns-else-factor
 unfolding of_bits in_bounds
-returns c = rw c.if-factor.false
+returns-else-factor c = rw c.if-factor.false

@@ -1,19 +1,18 @@
 -- `floors::read_map` meets its contract: a bad text, then a map. Assumes nothing.
 use Rattle.floors.proofs.Laws.{map_fair, fair_sides, read_is}
 use Rattle.floors.specs.Floors.{floor_grid}
-use Rattle.maps.specs.declared.Reading.TheVariants.{Map, Bad}
-use Rattle.grid.specs.declared.Outcome.TheVariants.{Done}
+use Rattle.std.specs.Prelude.{Ok, Err}
 use mathlib.Core.Path.{sym, ap, ◌∙◌}
 use Rattle.floors.proofs.read_map.Goals as goal
 
 pub floor-requires : goal.floor-requires
-floor-requires c = fair_sides c.in-Map.m (map_fair c.args.text.now c.in-Map.m (sym c.read-r.ensures.0 ∙ c.in-Map.is))
+floor-requires c = fair_sides c.in-Ok.m (map_fair c.args.text.now c.in-Ok.m (sym c.read.ensures.0 ∙ c.in-Ok.is))
 
-pub returns-in-Bad : goal.returns-in-Bad
-returns-in-Bad c = c.refused.ensures ∙ read_is c.args.text.now (Bad c.in-Bad.n) (sym c.read-r.ensures.0 ∙ c.in-Bad.is)
+pub returns-in-Err : goal.returns-in-Err
+returns-in-Err c = c.refused.ensures ∙ read_is c.args.text.now (Err c.in-Err.bad) (sym c.read.ensures.0 ∙ c.in-Err.is)
 
-pub returns-in-Map : goal.returns-in-Map
-returns-in-Map c =
-    let k = c.in-Map.m in
-    (λ i. record { outcome = Done; grid = (c.floor.ensures ∙ ap (floor_grid k.width k.height) c.read-r.ensures.1) i; diagonal = k.diagonal; start = k.start; goal = k.goal })
-    ∙ read_is c.args.text.now (Map k) (sym c.read-r.ensures.0 ∙ c.in-Map.is)
+pub returns-in-Ok : goal.returns-in-Ok
+returns-in-Ok c =
+    let k = c.in-Ok.m in
+    (λ i. record { outcome = Ok tt; grid = (c.floor.ensures ∙ ap (floor_grid k.width k.height) c.read.ensures.1) i; diagonal = k.diagonal; start = k.start; goal = k.goal })
+    ∙ read_is c.args.text.now (Ok k) (sym c.read.ensures.0 ∙ c.in-Ok.is)

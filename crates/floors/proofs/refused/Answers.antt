@@ -1,7 +1,7 @@
 -- `floors::refused` meets its contract: a new grid of 1 by 1. Assumes nothing.
 use Rattle.floors.proofs.Laws.{new_one}
 use Rattle.floors.specs.Floors.{origin}
-use Rattle.grid.specs.declared.Outcome.TheVariants.{Refused as RefusedOutcome}
+use Rattle.std.specs.Prelude.{Err}
 use Rattle.points.specs.declared.Refusal.TheVariants.{Map as MapBroken}
 use mathlib.Core.Bool.{true}
 use mathlib.Core.Path.{ap, ◌∙◌}
@@ -10,4 +10,4 @@ use Rattle.floors.proofs.refused.Goals as goal
 pub returns : goal.returns
 returns c =
     let n = c.args.line in
-    λ i. record { outcome = RefusedOutcome (MapBroken n); grid = (ap (λ r. r.grid) c.new-none.ensures ∙ new_one) i; diagonal = true; start = origin; goal = origin }
+    λ i. record { outcome = Err (MapBroken n); grid = (ap (λ r. r.grid) c.new.ensures ∙ new_one) i; diagonal = true; start = origin; goal = origin }

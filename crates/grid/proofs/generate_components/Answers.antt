@@ -1,14 +1,12 @@
 -- `grid::generate_components` meets its contract. Assumes nothing.
-use mathlib.Core.Path.{sym, ◌∙◌}
-use Rattle.grid.proofs.Tests
-use Rattle.grid.proofs.Calls
+use borrow.Author.Rules.{rules}
+use Rattle.grid.specs.Grids.{rebuild_outcome}
 use Rattle.grid.proofs.generate_components.Goals as goal
 
-pub returns-in-Refused : goal.returns-in-Refused
-returns-in-Refused c = Calls.rebuild_refused _ _ _ (sym c.in-Refused.is ∙ c.stated-t.ensures)
-
-pub rebuilt-requires : goal.rebuilt-requires
-rebuilt-requires c = (Tests.of_legal_lem _ (Tests.done_stated _ (sym c.in_default.is ∙ c.stated-t.ensures))).sides
+pub returns-in_err-stated : goal.returns-in_err-stated
+unfolding rebuild_outcome
+returns-in_err-stated c = search rules
 
 pub returns : goal.returns
-returns c = Calls.rebuild_done _ _ _ (sym c.in_default.is ∙ c.stated-t.ensures) c.rebuilt.ensures
+unfolding rebuild_outcome
+returns c = search rules

@@ -1,20 +1,14 @@
 -- `grid::located` meets its contract. Assumes nothing.
+use borrow.Author.Rules.{rules}
 use mathlib.Core.Path.{sym, ◌∙◌}
-use native.Mathlib.Omega.{arith}
 use Rattle.grid.proofs.Tests
 use Rattle.grid.proofs.located.Goals as goal
 
-pub returns-then-not-legal : goal.returns-then-not-legal
-returns-then-not-legal c = Tests.located_state _ _ (sym c.legal.ensures ∙ c.if-not-legal.true)
+pub returns-in_err-stated-clause-is : goal.returns-in_err-stated-clause-is
+returns-in_err-stated-clause-is c = search (rules, Tests.located_state)
 
-pub cell_of-requires : goal.cell_of-requires
-cell_of-requires c = let f = Tests.of_legal_lem _ (sym c.legal.ensures ∙ c.if-not-legal.false) in (f.sides.wide, f.sides.high)
+pub returns-then-i-g-clause-is : goal.returns-then-i-g-clause-is
+returns-then-i-g-clause-is c = Tests.located_in _ _ _ (Tests.done_stated _ (sym c.in_ok-stated.was ∙ c.stated.ensures.is)) c.cell_of-i.ensures c.if-i-g.true
 
-pub overflow_mul-w : goal.overflow_mul-w
-overflow_mul-w c = let f = Tests.of_legal_lem _ (sym c.legal.ensures ∙ c.if-not-legal.false) in omega (arith, f.cells)
-
-pub returns-then-cell_of-w : goal.returns-then-cell_of-w
-returns-then-cell_of-w c = Tests.located_in _ _ _ (sym c.legal.ensures ∙ c.if-not-legal.false) c.cell_of.ensures c.if-cell_of-w.true
-
-pub returns : goal.returns
-returns c = Tests.located_out _ _ _ (sym c.legal.ensures ∙ c.if-not-legal.false) c.cell_of.ensures c.if-cell_of-w.false
+pub returns-else-i-g-clause-is : goal.returns-else-i-g-clause-is
+returns-else-i-g-clause-is c = Tests.located_out _ _ _ (Tests.done_stated _ (sym c.in_ok-stated.was ∙ c.stated.ensures.is)) c.cell_of-i.ensures c.if-i-g.false

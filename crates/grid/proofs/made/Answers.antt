@@ -6,4 +6,4 @@ use Rattle.grid.proofs.made.Goals as goal
 
 pub returns : goal.returns
 unfolding new_grid
-returns c = ap (λ (t : Tables). grid_of c.args.w c.args.h t) c.new.ensures
+returns c = ap (λ (t : Tables). grid_of c.args.width c.args.height t) c.new.ensures

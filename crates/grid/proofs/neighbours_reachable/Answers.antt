@@ -1,30 +1,12 @@
 -- `grid::neighbours_reachable` meets its contract. Assumes nothing.
-use mathlib.Core.Path.{◌≡◌, sym, ◌∙◌}
-use Prim.Native.Nat.{◌*◌}
-use native.Mathlib.Omega.{arith}
-use lib.ListN.{length}
-use Rattle.cells.specs.Cells.{most_side}
-use Rattle.grid.proofs.Tests
-use Rattle.grid.proofs.Calls
-use borrow.Author.Rules.{rules}
+use Rattle.std.proofs.Common.{rules}
+use Rattle.grid.specs.Questions.{neighbours_reachable_from}
 use Rattle.grid.proofs.neighbours_reachable.Goals as goal
 
-pub returns-in-Refused : goal.returns-in-Refused
-returns-in-Refused c = Calls.near_refused _ _ _ _ _ (sym c.in-Refused.is ∙ c.asked-t.ensures)
-
-pub cell_of-a-requires : goal.cell_of-a-requires
-cell_of-a-requires c = let f = Tests.of_legal_lem _ (Tests.done_asked _ _ _ (sym c.in_default.is ∙ c.asked-t.ensures)) in (f.sides.wide, f.sides.high)
-
-pub cell_of-c-requires : goal.cell_of-c-requires
-cell_of-c-requires c = let f = Tests.of_legal_lem _ (Tests.done_asked _ _ _ (sym c.in_default.is ∙ c.asked-t.ensures)) in (f.sides.wide, f.sides.high)
-
-pub neighbours_reachable-requires : goal.neighbours_reachable-requires
-neighbours_reachable-requires c =
-    let g = c.args.g in
-    let d = Tests.done_asked g c.args.start c.args.goal (sym c.in_default.is ∙ c.asked-t.ensures) in
-    let lp : length g.parent ≡ most_side * most_side = search rules in
-    let lk : length g.rank ≡ most_side * most_side = search rules in
-    ((Tests.of_legal_lem g d).sides, Tests.forest g d (omega arith) (omega arith))
+pub returns-in_err-a : goal.returns-in_err-a
+unfolding neighbours_reachable_from
+returns-in_err-a c = search rules
 
 pub returns : goal.returns
-returns c = Calls.near_done _ _ _ _ _ _ _ (sym c.in_default.is ∙ c.asked-t.ensures) c.cell_of-a.ensures c.cell_of-c.ensures c.answer.ensures _ c.neighbours_reachable.ensures
+unfolding neighbours_reachable_from
+returns c = search rules

@@ -1,33 +1,12 @@
 -- `grid::unreachable` meets its contract. Assumes nothing.
-use mathlib.Core.Path.{◌≡◌, sym, ◌∙◌}
-use Prim.Native.Nat.{◌*◌}
-use native.Mathlib.Omega.{arith}
-use lib.ListN.{length}
-use Rattle.cells.specs.Cells.{most_side}
-use Rattle.grid.proofs.Tests
-use Rattle.grid.proofs.Calls
-use borrow.Author.Rules.{rules}
+use Rattle.std.proofs.Common.{rules}
+use Rattle.grid.specs.Questions.{unreachable_from, reachable_from}
 use Rattle.grid.proofs.unreachable.Goals as goal
 
-pub returns-in-Refused : goal.returns-in-Refused
-returns-in-Refused c = Calls.unreachable_refused _ _ _ _ (sym c.in-Refused.is ∙ c.asked-t.ensures)
-
-pub cell_of-a-requires : goal.cell_of-a-requires
-cell_of-a-requires c = let f = Tests.of_legal_lem _ (Tests.done_asked _ _ _ (sym c.in_default.is ∙ c.asked-t.ensures)) in (f.sides.wide, f.sides.high)
-
-pub cell_of-c-requires : goal.cell_of-c-requires
-cell_of-c-requires c = let f = Tests.of_legal_lem _ (Tests.done_asked _ _ _ (sym c.in_default.is ∙ c.asked-t.ensures)) in (f.sides.wide, f.sides.high)
-
-pub overflow_mul-w : goal.overflow_mul-w
-overflow_mul-w c = let f = Tests.of_legal_lem _ (Tests.done_asked _ _ _ (sym c.in_default.is ∙ c.asked-t.ensures)) in omega (arith, f.cells)
-
-pub unreachable-requires : goal.unreachable-requires
-unreachable-requires c =
-    let g = c.args.g in
-    let d = Tests.done_asked g c.args.start c.args.goal (sym c.in_default.is ∙ c.asked-t.ensures) in
-    let lp : length g.parent ≡ most_side * most_side = search rules in
-    let lk : length g.rank ≡ most_side * most_side = search rules in
-    Tests.forest g d (omega arith) (omega arith)
+pub returns-in_err-yes : goal.returns-in_err-yes
+unfolding unreachable_from reachable_from
+returns-in_err-yes c = search rules
 
 pub returns : goal.returns
-returns c = Calls.unreachable_done _ _ _ _ _ _ _ (sym c.in_default.is ∙ c.asked-t.ensures) c.cell_of-a.ensures c.cell_of-c.ensures c.answer.ensures c.unreachable.ensures
+unfolding unreachable_from reachable_from
+returns c = search rules

@@ -9,16 +9,16 @@ pub returns-then-stops_in : goal.returns-then-stops_in
 unfolding halts_at
 returns-then-stops_in c =
     rw (
-      ← (let same' : c.stops_in.result ≡ stops_at c.args.forced.now c.args.goals.now c.args.p c.args.d c.args.x c.args.y = let f = c.requires in
-          c.stops_in.ensures ∙ ap (stops_in _ _ _ _) f.1.1.1 ∙ stops_in_lem _ _ _ _ f.1.1.0 in same'),
+      ← (let same' : c.stops_in.result ≡ stops_at c.args.scene.now.forced.now c.args.scene.now.goals.now c.args.scene.now.plan.now c.args.d c.args.c.x c.args.c.y = let f = c.requires in
+          c.stops_in.ensures ∙ ap (stops_in _ _ _ _) f.1.1 ∙ stops_in_lem _ _ _ _ f.1.0 in same'),
       c.if-stops_in.true,
     )
 
-pub returns : goal.returns
+pub returns-else-stops_in : goal.returns-else-stops_in
 unfolding halts_at
-returns c =
+returns-else-stops_in c =
     rw (
-      ← (let same' : c.stops_in.result ≡ stops_at c.args.forced.now c.args.goals.now c.args.p c.args.d c.args.x c.args.y = let f = c.requires in
-          c.stops_in.ensures ∙ ap (stops_in _ _ _ _) f.1.1.1 ∙ stops_in_lem _ _ _ _ f.1.1.0 in same'),
+      ← (let same' : c.stops_in.result ≡ stops_at c.args.scene.now.forced.now c.args.scene.now.goals.now c.args.scene.now.plan.now c.args.d c.args.c.x c.args.c.y = let f = c.requires in
+          c.stops_in.ensures ∙ ap (stops_in _ _ _ _) f.1.1 ∙ stops_in_lem _ _ _ _ f.1.0 in same'),
       c.if-stops_in.false,
     ) c.sees_aside.ensures

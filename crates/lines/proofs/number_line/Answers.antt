@@ -1,48 +1,39 @@
 -- `lines::number_line` meets its contract: the word, the number, the newline. Assumes nothing.
--- the word stands there
-use mathlib.Core.Path.{◌≡◌, sym, ap, ◌∙◌, subst}
 use mathlib.Core.Bool.{true, false}
 use Prim.Native.Nat.{◌+◌}
 use native.Mathlib.Omega.{arith}
-use lib.ListN.{length, drop, length-drop}
-use Rattle.text.specs.Grammar.{number_of}
-use Rattle.lines.specs.Lines.{number_end, starts_with, number_line}
-use Rattle.text.specs.declared.Num.TheVariants.{Whole}
-use Rattle.text.proofs.Steps.{Bounded, number_bounded}
-use Rattle.lines.proofs.Laws.{word_length, byte_short, byte_other, byte_same, number_line_other, number_line_rest, number_end_by}
+use lib.ListN.{length}
+use Rattle.text.proofs.Steps.{reads_none}
+use Rattle.lines.proofs.Laws.{number_line_other, number_line_none, number_line_some, after_line}
 use Rattle.lines.proofs.number_line.Goals as goal
 
-pub returns-then-not-starts : goal.returns-then-not-starts
-returns-then-not-starts c =
+pub returns-in_err-strip_prefix : goal.returns-in_err-strip_prefix
+returns-in_err-strip_prefix c =
     let a = c.args in
-    sym (number_line_other a.word.now a.limit a.s.now a.at (sym c.starts.ensures ∙ c.if-not-starts.true))
+    reads_none a.s.now _ _ c.from_residual.ensures (number_line_other a.word.now a.limit a.s.now c.in_err-strip_prefix.ensures.cases)
 
-pub overflow_add-from : goal.overflow_add-from
-overflow_add-from c =
+pub returns-in_err-v : goal.returns-in_err-v
+returns-in_err-v c =
     let a = c.args in
-    omega (arith, word_length a.word.now (drop a.at a.s.now) ((let begins' : starts_with c.args.word.now (drop c.args.at c.args.s.now) ≡ true = sym c.starts.ensures ∙ c.if-not-starts.false in begins')), length-drop a.at a.s.now, c.ranges)
+    let w = c.in_ok-strip_prefix.ensures.cases in
+    reads_none a.s.now _ _ c.from_residual-in_err-v.ensures (number_line_none a.word.now a.limit a.s.now c.in_ok-strip_prefix.field-0.now w.0 w.1 c.in_err-v.ensures)
 
-pub returns-in_default : goal.returns-in_default
-returns-in_default c =
+pub returns-in_err-strip_prefix-2 : goal.returns-in_err-strip_prefix-2
+returns-in_err-strip_prefix-2 c =
     let a = c.args in
-    sym ((let rest' : number_line c.args.word.now c.args.limit (drop c.args.at c.args.s.now) ≡ number_end (length c.args.word.now) (drop ((c.args.at + length c.args.word.now)) c.args.s.now) (number_of c.args.limit (drop ((c.args.at + length c.args.word.now)) c.args.s.now)) = number_line_rest c.args.word.now c.args.limit c.args.s.now c.args.at ((let begins' : starts_with c.args.word.now (drop c.args.at c.args.s.now) ≡ true = sym c.starts.ensures ∙ c.if-not-starts.false in begins')) in rest') ∙ ap (number_end (length a.word.now) (drop ((c.args.at + length c.args.word.now)) a.s.now)) (sym c.number.ensures ∙ c.in_default.is))
-
-pub overflow_add-end : goal.overflow_add-end
-overflow_add-end c =
-    let a = c.args in
-    omega (arith, ((let bounds' : Bounded c.args.limit (length (drop ((c.args.at + length c.args.word.now)) c.args.s.now)) (Whole c.in-Whole.v c.in-Whole.n) = subst (Bounded c.args.limit (length (drop ((c.args.at + length c.args.word.now)) c.args.s.now))) ((let read' : number_of c.args.limit (drop ((c.args.at + length c.args.word.now)) c.args.s.now) ≡ Whole c.in-Whole.v c.in-Whole.n = sym c.number.ensures ∙ c.in-Whole.is in read')) (number_bounded c.args.limit (drop ((c.args.at + length c.args.word.now)) c.args.s.now) c.requires.0) in bounds')).1, word_length a.word.now (drop a.at a.s.now) ((let begins' : starts_with c.args.word.now (drop c.args.at c.args.s.now) ≡ true = sym c.starts.ensures ∙ c.if-not-starts.false in begins')), length-drop a.at a.s.now, length-drop ((c.args.at + length c.args.word.now)) a.s.now)
-
-pub returns-then-s-end : goal.returns-then-s-end
-returns-then-s-end c =
-    let a = c.args in
-    sym ((let line' : number_line c.args.word.now c.args.limit (drop c.args.at c.args.s.now) ≡ number_end (length c.args.word.now) (drop ((c.args.at + length c.args.word.now)) c.args.s.now) (Whole c.in-Whole.v c.in-Whole.n) = (let rest' : number_line c.args.word.now c.args.limit (drop c.args.at c.args.s.now) ≡ number_end (length c.args.word.now) (drop ((c.args.at + length c.args.word.now)) c.args.s.now) (number_of c.args.limit (drop ((c.args.at + length c.args.word.now)) c.args.s.now)) = number_line_rest c.args.word.now c.args.limit c.args.s.now c.args.at ((let begins' : starts_with c.args.word.now (drop c.args.at c.args.s.now) ≡ true = sym c.starts.ensures ∙ c.if-not-starts.false in begins')) in rest') ∙ ap (number_end (length c.args.word.now) (drop ((c.args.at + length c.args.word.now)) c.args.s.now)) ((let read' : number_of c.args.limit (drop ((c.args.at + length c.args.word.now)) c.args.s.now) ≡ Whole c.in-Whole.v c.in-Whole.n = sym c.number.ensures ∙ c.in-Whole.is in read')) in line') ∙ number_end_by (length a.word.now) (drop ((c.args.at + length c.args.word.now)) a.s.now) c.in-Whole.v c.in-Whole.n false (byte_short a.s.now ((c.args.at + length c.args.word.now)) c.in-Whole.n 10 c.if-s-end.true))
-
-pub returns-then-s-end-ne10 : goal.returns-then-s-end-ne10
-returns-then-s-end-ne10 c =
-    let a = c.args in
-    sym ((let line' : number_line c.args.word.now c.args.limit (drop c.args.at c.args.s.now) ≡ number_end (length c.args.word.now) (drop ((c.args.at + length c.args.word.now)) c.args.s.now) (Whole c.in-Whole.v c.in-Whole.n) = (let rest' : number_line c.args.word.now c.args.limit (drop c.args.at c.args.s.now) ≡ number_end (length c.args.word.now) (drop ((c.args.at + length c.args.word.now)) c.args.s.now) (number_of c.args.limit (drop ((c.args.at + length c.args.word.now)) c.args.s.now)) = number_line_rest c.args.word.now c.args.limit c.args.s.now c.args.at ((let begins' : starts_with c.args.word.now (drop c.args.at c.args.s.now) ≡ true = sym c.starts.ensures ∙ c.if-not-starts.false in begins')) in rest') ∙ ap (number_end (length c.args.word.now) (drop ((c.args.at + length c.args.word.now)) c.args.s.now)) ((let read' : number_of c.args.limit (drop ((c.args.at + length c.args.word.now)) c.args.s.now) ≡ Whole c.in-Whole.v c.in-Whole.n = sym c.number.ensures ∙ c.in-Whole.is in read')) in line') ∙ number_end_by (length a.word.now) (drop ((c.args.at + length c.args.word.now)) a.s.now) c.in-Whole.v c.in-Whole.n false (byte_other a.s.now ((c.args.at + length c.args.word.now)) c.in-Whole.n 10 (omega arith) c.if-s-end-ne10.true))
+    let w = c.in_ok-strip_prefix.ensures.cases in
+    let r = c.in_ok-v.ensures in
+    reads_none a.s.now _ _ c.from_residual-in_err-strip_prefix-2.ensures
+    (number_line_some a.word.now a.limit a.s.now c.in_ok-strip_prefix.field-0.now w.0 w.1 c.in_ok-v.v r.0 r.1 c.in_ok-v.rest.now r.2 false c.in_err-strip_prefix-2.ensures.cases)
 
 pub returns : goal.returns
 returns c =
     let a = c.args in
-    sym ((let line' : number_line c.args.word.now c.args.limit (drop c.args.at c.args.s.now) ≡ number_end (length c.args.word.now) (drop ((c.args.at + length c.args.word.now)) c.args.s.now) (Whole c.in-Whole.v c.in-Whole.n) = (let rest' : number_line c.args.word.now c.args.limit (drop c.args.at c.args.s.now) ≡ number_end (length c.args.word.now) (drop ((c.args.at + length c.args.word.now)) c.args.s.now) (number_of c.args.limit (drop ((c.args.at + length c.args.word.now)) c.args.s.now)) = number_line_rest c.args.word.now c.args.limit c.args.s.now c.args.at ((let begins' : starts_with c.args.word.now (drop c.args.at c.args.s.now) ≡ true = sym c.starts.ensures ∙ c.if-not-starts.false in begins')) in rest') ∙ ap (number_end (length c.args.word.now) (drop ((c.args.at + length c.args.word.now)) c.args.s.now)) ((let read' : number_of c.args.limit (drop ((c.args.at + length c.args.word.now)) c.args.s.now) ≡ Whole c.in-Whole.v c.in-Whole.n = sym c.number.ensures ∙ c.in-Whole.is in read')) in line') ∙ number_end_by (length a.word.now) (drop ((c.args.at + length c.args.word.now)) a.s.now) c.in-Whole.v c.in-Whole.n true (byte_same a.s.now ((c.args.at + length c.args.word.now)) c.in-Whole.n 10 (omega arith) c.if-s-end-ne10.false))
+    let w = c.in_ok-strip_prefix.ensures.cases in
+    let r = c.in_ok-v.ensures in
+    let e = c.in_ok-strip_prefix-2.ensures.cases in (
+      length a.word.now + r.0 + 1,
+      number_line_some a.word.now a.limit a.s.now c.in_ok-strip_prefix.field-0.now w.0 w.1 c.in_ok-v.v r.0 r.1 c.in_ok-v.rest.now r.2 true e.0,
+      after_line a.s.now c.in_ok-strip_prefix.field-0.now c.in_ok-v.rest.now c.in_ok-strip_prefix-2.field-0.now (length a.word.now) r.0 w.1 r.2 e.1,
+      omega (arith, e.2, r.3, w.2),
+    )

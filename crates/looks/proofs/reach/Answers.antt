@@ -1,9 +1,7 @@
 -- `looks::reach` meets its contract. Assumes nothing.
 -- neither offset is 1
-use mathlib.Core.Path.{◌≡◌, sym, ◌∙◌}
-use Prim.Native.Nat.{ℕ, ◌≤◌, ◌<◌, min}
-use native.Mathlib.Omega.{arith}
-use borrow.Author.Rules.{rules}
+use mathlib.Core.Path.{◌≡◌}
+use Prim.Native.Nat.{ℕ, min}
 use borrow.Author.Tests.{eq-eqb, ne_eqb}
 use Rattle.looks.specs.Looks.{ahead_of, reach_of}
 use Rattle.looks.proofs.reach.Goals as goal
@@ -20,8 +18,5 @@ pub returns-then-oy-eq1 : goal.returns-then-oy-eq1
 unfolding reach_of
 returns-then-oy-eq1 c = rw (ne_eqb _ _ c.if-ox-eq1.false, eq-eqb _ _ c.if-oy-eq1.true) c.ahead-across.ensures
 
-pub returns-then-across-down : goal.returns-then-across-down
-returns-then-across-down c = least _ _ _ _ _ _ _ _ _ c.if-ox-eq1.false c.if-oy-eq1.false c.ahead-across.ensures c.ahead-down.ensures (omega (arith, c.if-across-down.true))
-
 pub returns : goal.returns
-returns c = least _ _ _ _ _ _ _ _ _ c.if-ox-eq1.false c.if-oy-eq1.false c.ahead-across.ensures c.ahead-down.ensures (omega (arith, c.if-across-down.false))
+returns c = least _ _ _ _ _ _ _ _ _ c.if-ox-eq1.false c.if-oy-eq1.false c.ahead-across.ensures c.ahead-down.ensures c.min.ensures

@@ -1,24 +1,26 @@
 -- `maps::size_line` meets its contract: a number in the range of a side. Assumes nothing.
-use Rattle.maps.proofs.Laws.{size_is, sized_one}
-use Rattle.text.specs.declared.Num.TheVariants.{Whole, Wrong}
-use lib.ListN.{drop}
 use mathlib.Core.Bool.{Bool, cond}
 use mathlib.Core.Path.{sym, ap, ◌∙◌}
+use Rattle.std.specs.Prelude.{Some, None}
+use Rattle.text.proofs.Steps.{reads_none}
+use Rattle.maps.proofs.Laws.{size_by, sized_one}
 use Rattle.maps.proofs.size_line.Goals as goal
 
-pub returns-in_default : goal.returns-in_default
-returns-in_default c =
-    let a = c.args in
-    size_is a.word.now (drop a.at a.s.now) Wrong (sym c.in_default.is ∙ c.number_line.ensures)
+pub returns-in_err-v : goal.returns-in_err-v
+returns-in_err-v c = reads_none c.args.s.now _ _ c.from_residual.ensures (size_by c.args.word.now c.args.s.now None c.in_err-v.ensures)
 
 pub returns-then-not-sized : goal.returns-then-not-sized
 returns-then-not-sized c =
-    let a = c.args in
-    sym (ap (λ (t : Bool). cond t (Whole c.in-Whole.v c.in-Whole.n) Wrong) (sym (sized_one c.in-Whole.v) ∙ sym c.sized.ensures ∙ c.if-not-sized.true))
-    ∙ size_is a.word.now (drop a.at a.s.now) (Whole c.in-Whole.v c.in-Whole.n) (sym c.in-Whole.is ∙ c.number_line.ensures)
+    let r = c.in_ok-v.ensures in
+    let v = c.in_ok-v.v in
+    size_by c.args.word.now c.args.s.now (Some (v, r.0)) r.1 ∙ ap (λ (t : Bool). cond t (Some (v, r.0)) None) (sym (sized_one v) ∙ sym c.sized.ensures ∙ c.if-not-sized.true)
 
 pub returns : goal.returns
 returns c =
-    let a = c.args in
-    sym (ap (λ (t : Bool). cond t (Whole c.in-Whole.v c.in-Whole.n) Wrong) (sym (sized_one c.in-Whole.v) ∙ sym c.sized.ensures ∙ c.if-not-sized.false))
-    ∙ size_is a.word.now (drop a.at a.s.now) (Whole c.in-Whole.v c.in-Whole.n) (sym c.in-Whole.is ∙ c.number_line.ensures)
+    let r = c.in_ok-v.ensures in
+    let v = c.in_ok-v.v in (
+      r.0,
+      size_by c.args.word.now c.args.s.now (Some (v, r.0)) r.1 ∙ ap (λ (t : Bool). cond t (Some (v, r.0)) None) (sym (sized_one v) ∙ sym c.sized.ensures ∙ c.if-not-sized.false),
+      r.2,
+      r.3,
+    )

@@ -2,6 +2,7 @@
 use Prim.Native.Nat.{◌%◌}
 use native.Mathlib.Nat.{mod-lt}
 use native.Mathlib.Omega.{arith}
+use borrow.Author.Rules.{rules}
 use lib.Dec.{lit<}
 use Rattle.masks.proofs.Ands.{and_0, and_2, and_4, and_6, odd}
 use Rattle.masks.proofs.straight.Goals as goal
@@ -19,6 +20,4 @@ pub returns-in-6 : goal.returns-in-6
 returns-in-6 c = rw c.in-6.is (and_6 c.args.m (omega arith))
 
 pub returns-in_default : goal.returns-in_default
-returns-in_default c =
-    let r = c.in_default.in_default-own.rest in
-    odd (c.args.d % 8) c.args.m (mod-lt c.args.d (lit< tt)) r.0.0.0.1 r.0.0.1 r.0.1 r.1
+returns-in_default c = odd (c.args.d % 8) c.args.m (mod-lt c.args.d (lit< tt)) (search rules) (search rules) (search rules) (search rules)

@@ -1,26 +1,15 @@
--- `pairs::bad_point` meets its contract: no point before this one is bad. The measure is the numbers that are left. Assumes nothing.
-use Rattle.pairs.proofs.Laws.{bad_here, bad_next, bad_end}
-use Rattle.pairs.specs.declared.Bad.TheVariants.{At}
-use Rattle.pairs.specs.Pairs.{point_at}
-use Rattle.points.specs.Plane.{legal}
-use native.Mathlib.Omega.{arith}
-use mathlib.Core.Bool.{true, false}
-use mathlib.Core.Path.{◌≡◌, sym, ap, ◌∙◌}
+-- `pairs::bad_point` meets its contract: no point before this one is bad. Assumes nothing.
+use Rattle.std.proofs.Common.{true, false, sym, ◌∙◌, arith}
+use Rattle.pairs.proofs.Laws.{bad_by, bad_end}
 use Rattle.pairs.proofs.bad_point.Goals as goal
 
 pub returns-then-not-legal : goal.returns-then-not-legal
 returns-then-not-legal c =
-    let l = c.args.list.now in
-    let e : legal (point_at l c.loop-i.i) ≡ false = ap legal (sym c.point_at-p.ensures) ∙ sym c.legal.ensures ∙ c.if-not-legal.true in
-    ap At c.point_at-p.ensures ∙ bad_here l c.loop-i.i (omega arith) e ∙ c.loop-i.invariant.2
+    bad_by c.args.list.now c.loop-i.i c.point_at-p.result false c.point_at-p.ensures (sym c.if-not-legal.true ∙ c.legal.ensures) (omega arith) ∙ c.loop-i.invariant
 
 pub loop-i-preserved : goal.loop-i-preserved
 loop-i-preserved c =
-    let l = c.args.list.now in
-    let e : legal (point_at l c.loop-i.i) ≡ true = ap legal (sym c.point_at-p.ensures) ∙ sym c.legal.ensures ∙ c.if-not-legal.false in
-    (omega arith, omega arith, bad_next l c.loop-i.i (omega arith) e ∙ c.loop-i.invariant.2)
+    bad_by c.args.list.now c.loop-i.i c.point_at-p.result true c.point_at-p.ensures (sym c.if-not-legal.false ∙ c.legal.ensures) (omega arith) ∙ c.loop-i.invariant
 
 pub returns : goal.returns
-returns c =
-    let l = c.args.list.now in
-    sym (bad_end l c.loop-i.i c.loop-i-test.false) ∙ c.loop-i.invariant.2
+returns c = sym (bad_end c.args.list.now c.loop-i.i (omega arith)) ∙ c.loop-i.invariant

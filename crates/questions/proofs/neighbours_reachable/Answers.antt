@@ -1,12 +1,13 @@
 -- `questions::neighbours_reachable` meets its contract. Assumes nothing.
-use Rattle.questions.proofs.Answers
+use native.Mathlib.Omega.{arith}
+use Rattle.std.proofs.lemmas.Bool.Decides.{nat_tests}
+use Rattle.questions.specs.Questions.{neighbours_reachable_of}
 use Rattle.questions.proofs.neighbours_reachable.Goals as goal
 
-pub returns-then-n-a : goal.returns-then-n-a
-returns-then-n-a c = Answers.yes_start _ _ _ _ _ _ c.if-n-a.true
-
 pub returns-then-n-c : goal.returns-then-n-c
-returns-then-n-c c = Answers.yes_goal _ _ _ _ _ _ c.if-n-a.false c.if-n-c.true
+unfolding neighbours_reachable_of
+returns-then-n-c c = grind (arith, nat_tests)
 
-pub returns : goal.returns
-returns c = Answers.yes_near _ _ _ _ _ _ _ c.if-n-a.false c.if-n-c.false c.near.ensures
+pub returns-else-n-c : goal.returns-else-n-c
+unfolding neighbours_reachable_of
+returns-else-n-c c = grind (arith, nat_tests)

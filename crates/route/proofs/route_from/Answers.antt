@@ -5,9 +5,9 @@ use Rattle.router.proofs.Short.{within}
 use Rattle.route.proofs.route_from.Goals as goal
 
 pub slice_bounds-out-end : goal.slice_bounds-out-end
-slice_bounds-out-end g c = within _ _ _ _ c.route_text-m.ensures (omega (arith, length-replicate {A = ℕ} 82100 0))
+slice_bounds-out-end g c = within _ _ _ _ c.route_text-n.ensures (omega (arith, length-replicate {A = ℕ} 82100 0))
 
 pub slice_bounds-write_all-end : goal.slice_bounds-write_all-end
 slice_bounds-write_all-end g c =
-    let fits : c.route_text-m.result ≤ length c.route_text-m.new.out = within _ _ _ _ c.route_text-m.ensures (omega (arith, length-replicate {A = ℕ} 82100 0)) in
-    sym (length-take-le c.route_text-m.result c.route_text-m.new.out fits)
+    let fits : c.route_text-n.result ≤ length c.route_text-n.new.out = within _ _ _ _ c.route_text-n.ensures (omega (arith, length-replicate {A = ℕ} 82100 0)) in
+    sym (length-take-le c.route_text-n.result c.route_text-n.new.out fits)

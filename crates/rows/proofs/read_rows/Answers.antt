@@ -1,52 +1,47 @@
--- `rows::read_rows` meets its contract: the rows from here on give the answer and the cells of all rows. The measure is how many rows are left. Assumes nothing.
-use Rattle.rows.proofs.Laws.{row_length, row_room, rows_bad, rows_more, rows_rest, rows_good, cells_done, cells_bad, cells_more}
+-- `rows::read_rows` meets its contract: the rows from here on give the answer and the cells of all rows. Assumes nothing.
+use mathlib.Core.Path.{sym, ap, ◌∙◌}
+use Prim.Native.Nat.{ℕ, ◌+◌, ◌-◌, ◌*◌}
+use native.Mathlib.Nat.{suc-mul}
 use native.Mathlib.Omega.{arith}
-use mathlib.Core.Path.{sym, ◌∙◌}
+use lib.ListN.{length}
+use borrow.Author.Tests.{eqb-true, eqb-false}
+use Rattle.rows.specs.Rows.{rows_of}
+use Rattle.rows.proofs.Laws.{rows_bad, rows_more, rows_rest, rows_good, cells_done, cells_bad, cells_more}
 use Rattle.rows.proofs.read_rows.Goals as goal
 
-pub returns-then-not-row_ok : goal.returns-then-not-row_ok
-returns-then-not-row_ok c =
+pub returns-in_default : goal.returns-in_default
+returns-in_default c =
     let a = c.args in
-    let e = sym c.row_ok.ensures ∙ c.if-not-row_ok.true in (
-      rows_bad a.s.now c.loop-left.at a.w c.loop-left.line c.loop-left.left c.loop-left-test.true e ∙ c.loop-left.invariant.4,
-      sym (cells_bad a.s.now c.loop-left.at a.w c.loop-left.blocked c.loop-left.cell c.loop-left.left e) ∙ c.loop-left.invariant.5,
+    let l = c.loop-i in (
+      rows_bad l.rest.now a.w (6 + l.i) (a.h - l.i) (a.h - (l.i + 1)) (omega arith) c.in_default.ensures ∙ l.invariant.1,
+      sym (cells_bad l.rest.now a.w l.blocked (l.i * a.w) (a.h - l.i) c.in_default.ensures) ∙ l.invariant.2,
     )
 
-pub fill_row-requires : goal.fill_row-requires
-fill_row-requires c =
-    let a = c.args in (
-      omega (arith, row_length a.s.now c.loop-left.at a.w (sym c.row_ok.ensures ∙ c.if-not-row_ok.false)),
-      omega (arith, row_room c.loop-left.left a.w c.loop-left-test.true, c.loop-left.invariant.3),
+pub loop-i-preserved : goal.loop-i-preserved
+loop-i-preserved c =
+    let a = c.args in
+    let l = c.loop-i in
+    let r = c.in-Some.ensures in (
+      c.fill_row.auto.blocked ∙ l.invariant.0,
+      ap (λ (k : ℕ). rows_of (a.h - (l.i + 1)) a.w k c.in-Some.after.now) (omega arith)
+          ∙ rows_more l.rest.now a.w (6 + l.i) (a.h - l.i) (a.h - (l.i + 1)) (omega arith) r.0 c.in-Some.after.now r.3 ∙ l.invariant.1,
+      cells_more l.rest.now a.w l.blocked (l.i * a.w) (a.h - l.i) (a.h - (l.i + 1)) (omega arith) r.0 c.in-Some.cells.now c.in-Some.after.now c.fill_row.new.blocked ((l.i + 1) * a.w)
+          r.1 r.2 r.3 c.fill_row.ensures (omega (arith, suc-mul l.i a.w)) ∙ l.invariant.2,
     )
 
-pub overflow_add-at-in-loop-left-2 : goal.overflow_add-at-in-loop-left-2
-overflow_add-at-in-loop-left-2 c =
+pub returns-then-not-is_empty : goal.returns-then-not-is_empty
+returns-then-not-is_empty c =
     let a = c.args in
-    omega (arith, row_length a.s.now c.loop-left.at a.w (sym c.row_ok.ensures ∙ c.if-not-row_ok.false))
-
-pub loop-left-preserved : goal.loop-left-preserved
-loop-left-preserved c =
-    let a = c.args in
-    let s = a.s.now in
-    let e = sym c.row_ok.ensures ∙ c.if-not-row_ok.false in (
-      c.fill_row.auto.blocked ∙ c.loop-left.invariant.0,
-      row_length s c.loop-left.at a.w e,
-      omega (arith, c.loop-left.invariant.2, c.loop-left-test.true),
-      omega (arith, row_room c.loop-left.left a.w c.loop-left-test.true, c.loop-left.invariant.3, c.fill_row.auto.blocked),
-      rows_more s c.loop-left.at a.w c.loop-left.line c.loop-left.left c.loop-left-test.true e ∙ c.loop-left.invariant.4,
-      cells_more s c.loop-left.at a.w c.loop-left.blocked c.loop-left.cell c.loop-left.left c.fill_row.new.blocked c.loop-left-test.true e c.fill_row.ensures ∙ c.loop-left.invariant.5,
-    )
-
-pub returns-then-at-s : goal.returns-then-at-s
-returns-then-at-s c =
-    let a = c.args in (
-      rows_rest a.s.now c.loop-left.at a.w c.loop-left.line c.loop-left.left c.loop-left-test.false c.if-at-s.true ∙ c.loop-left.invariant.4,
-      sym (cells_done a.s.now c.loop-left.at a.w c.loop-left.blocked c.loop-left.cell c.loop-left.left c.loop-left-test.false) ∙ c.loop-left.invariant.5,
+    let l = c.loop-i in
+    let some = eqb-false (length l.rest.now) 0 (sym c.is_empty.ensures ∙ c.if-not-is_empty.true) in (
+      rows_rest l.rest.now a.w (6 + a.h) (a.h - l.i) (omega arith) (omega (arith, some)) ∙ ap (λ (k : ℕ). rows_of (a.h - l.i) a.w k l.rest.now) (omega arith) ∙ l.invariant.1,
+      sym (cells_done l.rest.now a.w l.blocked (l.i * a.w) (a.h - l.i) (omega arith)) ∙ l.invariant.2,
     )
 
 pub returns : goal.returns
 returns c =
-    let a = c.args in (
-      rows_good a.s.now c.loop-left.at a.w c.loop-left.line c.loop-left.left c.loop-left-test.false c.if-at-s.false ∙ c.loop-left.invariant.4,
-      sym (cells_done a.s.now c.loop-left.at a.w c.loop-left.blocked c.loop-left.cell c.loop-left.left c.loop-left-test.false) ∙ c.loop-left.invariant.5,
+    let a = c.args in
+    let l = c.loop-i in (
+      rows_good l.rest.now a.w (6 + l.i) (a.h - l.i) (omega arith) (eqb-true (length l.rest.now) 0 (sym c.is_empty.ensures ∙ c.if-not-is_empty.false)) ∙ l.invariant.1,
+      sym (cells_done l.rest.now a.w l.blocked (l.i * a.w) (a.h - l.i) (omega arith)) ∙ l.invariant.2,
     )

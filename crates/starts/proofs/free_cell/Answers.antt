@@ -4,13 +4,13 @@ use Rattle.stops.proofs.Laws.{placed, free_inside}
 use Rattle.starts.specs.Start.{free_cell}
 use Rattle.starts.proofs.free_cell.Goals as goal
 
-pub returns-then-not-is_free : goal.returns-then-not-is_free
-unfolding free_cell
-returns-then-not-is_free c = rw (sym c.is_free.ensures ∙ c.if-not-is_free.true)
-
 pub number-requires : goal.number-requires
-number-requires c = placed c.requires.wide c.requires.high (free_inside c.args.blocked.now _ _ _ _ (sym c.is_free.ensures ∙ c.if-not-is_free.false))
+number-requires c = placed c.requires.wide c.requires.high (free_inside c.args.blocked.now _ _ _ _ (sym c.is_free.ensures ∙ c.if-is_free.true))
 
-pub returns : goal.returns
+pub returns-then-is_free : goal.returns-then-is_free
 unfolding free_cell
-returns c = rw (sym c.is_free.ensures ∙ c.if-not-is_free.false, c.number.ensures)
+returns-then-is_free c = rw (sym c.is_free.ensures ∙ c.if-is_free.true, c.number.ensures)
+
+pub returns-else-is_free : goal.returns-else-is_free
+unfolding free_cell
+returns-else-is_free c = rw (sym c.is_free.ensures ∙ c.if-is_free.false)

@@ -14,5 +14,5 @@ pub returns : goal.returns
 returns c =
     c.free_cell.ensures
     ∙ neighbour_is _ _ _ _ _ _ (sym c.barred.ensures ∙ c.if-barred.false) c.stepped-at.ensures
-    (c.side_of-x.ensures ∙ ap side_of (to_z-of_z {w = w32} {z = c.stepped-at.result.x} (record { sfits = c.struct_told-1.given.0.1 })))
-    (c.side_of-y.ensures ∙ ap side_of (to_z-of_z {w = w32} {z = c.stepped-at.result.y} (record { sfits = c.struct_told-2-1.given.1.0.1 })))
+    (c.side_of.ensures ∙ ap side_of (to_z-of_z {w = w32} {z = c.stepped-at.result.x} (record { sfits = c.struct_told-1.given.0.1 })))
+    (c.side_of-2.ensures ∙ ap side_of (to_z-of_z {w = w32} {z = c.stepped-at.result.y} (record { sfits = c.struct_told-2-1.given.1.0.1 })))

@@ -5,4 +5,4 @@ use Rattle.stops.proofs.Targets.{stops_in_lem}
 use Rattle.stops.proofs.stops.Goals as goal
 
 pub returns : goal.returns
-returns c = c.stops_in.ensures ∙ ap (stops_in _ _ _ _) c.number-i.ensures ∙ stops_in_lem _ _ _ _ c.requires.1.1.1
+returns c = c.stops_in.ensures ∙ ap (stops_in _ _ _ _) c.number.ensures ∙ stops_in_lem _ _ _ _ c.requires.1.1.1

@@ -6,6 +6,6 @@ pub returns-then-hits : goal.returns-then-hits
 unfolding stops_in
 returns-then-hits c = rw (← c.hits.ensures, c.if-hits.true)
 
-pub returns : goal.returns
+pub returns-else-hits : goal.returns-else-hits
 unfolding stops_in
-returns c = rw (← c.hits.ensures, c.if-hits.false) c.bit.ensures
+returns-else-hits c = rw (← c.hits.ensures, c.if-hits.false) c.bit.ensures

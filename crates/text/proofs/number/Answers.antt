@@ -1,35 +1,28 @@
 -- `text::number` meets its contract, by the first byte. Assumes nothing.
 use mathlib.Core.Path.{sym, ap, ◌∙◌}
-use Prim.Native.Nat.{ℕ, ◌+◌}
-use native.Mathlib.Omega.{arith}
-use lib.ListN.{drop, get_or}
+use Prim.Native.Nat.{ℕ}
+use lib.ListN.{drop}
 use Rattle.text.specs.Grammar.{more_of}
-use Rattle.text.proofs.Steps.{is_digit, too_low, too_high, number_end_lem, number_zero, number_wrong, number_more}
+use Rattle.text.proofs.Steps.{reads_none, reads_as, number_none, number_zero, number_wrong, number_more}
 use Rattle.text.proofs.number.Goals as goal
 
-pub returns-then-s-at : goal.returns-then-s-at
-returns-then-s-at c =
-    let a = c.args in
-    sym (number_end_lem a.limit a.s.now a.at c.if-s-at.true)
+pub returns-in_err-b : goal.returns-in_err-b
+returns-in_err-b c = reads_none c.args.s.now _ _ c.from_residual.ensures (number_none c.args.limit c.args.s.now c.in_err-b.ensures.cases)
 
 pub returns-then-b-eq48 : goal.returns-then-b-eq48
 returns-then-b-eq48 c =
-    let a = c.args in
-    sym (number_zero a.limit a.s.now a.at (omega arith) c.if-b-eq48.true)
+    let h = c.in_ok-b.ensures.cases in
+    (1, number_zero c.args.limit c.args.s.now c.in_ok-b.field-0-0.now c.in_ok-b.rest.now h.0 c.if-b-eq48.true, sym (ap (drop 1) h.0), h.1)
 
-pub returns-then-b-lt48 : goal.returns-then-b-lt48
-returns-then-b-lt48 c =
-    let a = c.args in
-    sym (number_wrong a.limit a.s.now a.at (omega arith) c.if-b-eq48.false (too_low (get_or a.s.now a.at 0) (omega arith)))
-
-pub returns-then-b-gt57 : goal.returns-then-b-gt57
-returns-then-b-gt57 c =
-    let a = c.args in
-    sym (number_wrong a.limit a.s.now a.at (omega arith) c.if-b-eq48.false (too_high (get_or a.s.now a.at 0) (omega arith) (omega arith)))
+pub returns-then-not-is_ascii_digit : goal.returns-then-not-is_ascii_digit
+returns-then-not-is_ascii_digit c =
+    let h = c.in_ok-b.ensures.cases in
+    number_wrong c.args.limit c.args.s.now c.in_ok-b.field-0-0.now c.in_ok-b.rest.now h.0 c.if-b-eq48.false (sym c.is_ascii_digit.ensures.value ∙ c.if-not-is_ascii_digit.true)
 
 pub returns : goal.returns
 returns c =
-    let a = c.args in
-    let b = get_or a.s.now a.at 0 in
-    c.more.ensures ∙ ap (λ (v : ℕ). more_of a.limit v 1 (drop (a.at + 1) a.s.now)) c.wide.ensures
-    ∙ sym (number_more a.limit a.s.now a.at (omega arith) c.if-b-eq48.false (is_digit b (omega arith) (omega arith)))
+    let h = c.in_ok-b.ensures.cases in
+    reads_as c.args.s.now _ _ _
+    (number_more c.args.limit c.args.s.now c.in_ok-b.field-0-0.now c.in_ok-b.rest.now h.0 c.if-b-eq48.false (sym c.is_ascii_digit.ensures.value ∙ c.if-not-is_ascii_digit.false)
+    ∙ ap (λ (v : ℕ). more_of c.args.limit v 1 (drop 1 c.args.s.now)) (sym c.from.ensures))
+    c.more.ensures
