@@ -82,5 +82,7 @@ pub fn check_route(g: Grid, list: &[i32]) -> Result<Checked, Refusal>
     if !grid::legal(g) {
         return Err(Refusal::State);
     }
-    check_list(&g.blocked, g.width, g.height, list)
+    // Copied alone: lent as `&g.blocked`, the whole grid would be copied.
+    let blocked = g.blocked;
+    check_list(&blocked, g.width, g.height, list)
 }

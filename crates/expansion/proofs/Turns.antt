@@ -1,8 +1,9 @@
 -- A turn of the expansion's loop over the directions, and what ends it. Assumes nothing.
-use mathlib.Core.Path.{◌≡◌, sym, ap, ◌∙◌}
+use mathlib.Core.Path.{◌≡◌, sym, ap, subst, ◌∙◌}
 use mathlib.Core.Bool.{true, false}
 use mathlib.Core.List.{List}
-use Prim.Native.Nat.{ℕ, ◌+◌, ◌%◌, ◌<◌, ◌≤◌}
+use Prim.Native.Nat.{ℕ, zero, suc, ◌+◌, ◌-◌, ◌%◌, ◌<◌, ◌≤◌}
+use native.Mathlib.Nat.{le_refl}
 use native.Mathlib.Omega.{arith}
 use lib.ListN.{length}
 use Rattle.points.specs.declared.Point.{Point}
@@ -21,6 +22,7 @@ use Rattle.offers.proofs.Rounds.{Rounds, round_same, round_turn, round_halt, rou
 use Rattle.stops.specs.declared.Cell.{Cell}
 use Rattle.stops.specs.Stops.{spot_of, byte_at, price_of}
 use Rattle.jumps.specs.Jumps.{jump_of}
+use Rattle.successors.specs.Successors.{Clear}
 use Rattle.expansion.specs.Expand.{Tables, Ready, reached, deeper_at, follow_at, expand_at}
 use Rattle.expansion.proofs.Laws.{follow_off, follow_on, expand_each}
 use Rattle.expansion.proofs.Keeps.{follow_fit}
@@ -66,3 +68,17 @@ module _ (t : Tables) (p : Plan) (from depth : ℕ) (above : Point) (node : Cell
         let y = price_fits heading.number price faces.priced in
         round_turn t.goals p (follow_at t p from depth above node mask price base) r₀ r d a s x h followed u q
         (λ v w f l z. follow_fit t p from (length r₀.number.now) ready.lent.floor depth above node mask price base d ready.floors.sized.wide ready.floors.sized.high ready.inside y.0 y.1 v w f l z) k
+
+-- directions that the mask lacks, one after the other, up to the next one that it has
+module _ (t : Tables) (p : Plan) (from depth : ℕ) (above : Point) (node : Cell) (mask price base : ℕ) (heading : Direction) (faces : Faced t p above node mask price heading) (r₀ r : Work) where
+  abbrev At : ℕ → Type 0
+  At = Rounds t.goals p (follow_at t p from depth above node mask price base) r₀ r
+
+  passed_by : (j d e : ℕ) → d + j ≡ e → e ≤ 8 → ((k : ℕ) → d ≤ k → k < e → has_bit mask (k % 8) ≡ false) → At d → At e
+  passed_by zero d e q h g a = let z : d ≡ e = omega arith in subst At z a
+  passed_by (suc j) d e q h g a =
+      passed_by j (d + 1) e (omega arith) h (λ k x y. g k (omega arith) y)
+      (passed t p from depth above node mask price base heading faces r₀ r d a (omega arith) (g d (le_refl d) (omega arith)))
+
+  pub skipped : (d e : ℕ) → Clear mask d e → At d → At e
+  skipped d e c a = passed_by (e - d) d e (omega (arith, c.after)) c.low c.clear a

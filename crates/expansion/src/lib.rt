@@ -45,13 +45,12 @@ fn expand(
     let around = node.byte(neighbours, p.w);
     let mask = masks::pruned_mask(p.settings.diagonal, travel.number, around);
     let price = stops::price_of(travel.number);
-    for e in 0..8 {
-        if masks::bit(mask, e) {
-            follow(
-                blocked, neighbours, forced, goals, work, p, from, above, node, e, base, price,
-                depth,
-            )?;
-        }
+    let mut e = successors::next_of(mask, 0);
+    while e < 8 {
+        follow(
+            blocked, neighbours, forced, goals, work, p, from, above, node, e, base, price, depth,
+        )?;
+        e = successors::next_of(mask, e + 1);
     }
     Ok(())
 }

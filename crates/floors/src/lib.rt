@@ -107,5 +107,7 @@ pub fn write_map(
         start,
         goal,
     };
-    Ok(map_printing::put_map(buf, m, &g.blocked))
+    // Copied alone: lent as `&g.blocked`, the whole grid would be copied.
+    let blocked = g.blocked;
+    Ok(map_printing::put_map(buf, m, &blocked))
 }

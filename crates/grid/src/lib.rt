@@ -1,4 +1,5 @@
-// The public calls on a grid by value. Every grid value is legal input: each call tests what it rests on, and a refusal leaves the grid as it came.
+// The public calls on a grid: by value, or lent where they change it. Every grid value is legal input: each call tests what it rests on, and a refusal leaves a lent grid as it was.
+// A call that lends tables of a grid by value copies those tables alone first: lent as `&g.parent`, the whole grid would be copied.
 #![tactic(auto)]
 
 ghost use Rattle.std.specs.Prelude.{◌≡◌, ◌*◌, ◌<◌, OnOk, IfOk};
@@ -33,7 +34,13 @@ pub struct Change {
 pub fn legal(g: Grid) -> bool
     ensures { result ≡ legal_of g }
 {
-    cells::sized(g.width, g.height) && states::state_ok(&g.parent, &g.rank, g.width * g.height)
+    if cells::sized(g.width, g.height) {
+        let parent = g.parent;
+        let rank = g.rank;
+        states::state_ok(&parent, &rank, g.width * g.height)
+    } else {
+        false
+    }
 }
 
 // STATE.
@@ -188,7 +195,9 @@ pub fn get_component(g: Grid, p: Point) -> Result<usize, Refusal>
     ensures { result ≡ component_at g p }
 {
     let i = located(g, p)?;
-    Ok(components::find(&g.parent, &g.rank, g.width * g.height, i))
+    let parent = g.parent;
+    let rank = g.rank;
+    Ok(components::find(&parent, &rank, g.width * g.height, i))
 }
 
 // Which neighbours of a cell are inside and free, a bit for each direction. Refuses STATE, then POINT.
@@ -221,7 +230,9 @@ pub fn reachable(g: Grid, start: Point, goal: Point) -> Result<bool, Refusal>
 {
     let (a, c) = asked(g, start, goal)?;
     let n = g.width * g.height;
-    Ok(questions::reachable(&g.parent, &g.rank, n, a, c))
+    let parent = g.parent;
+    let rank = g.rank;
+    Ok(questions::reachable(&parent, &rank, n, a, c))
 }
 
 // Whether they do not: yes where one is outside. Refuses STATE, then POINT.
@@ -242,9 +253,9 @@ pub fn neighbours_reachable(
     ensures { result ≡ neighbours_reachable_from g diagonal start goal }
 {
     let (a, c) = asked(g, start, goal)?;
-    let yes = questions::neighbours_reachable(
-        g.width, g.height, diagonal, &g.parent, &g.rank, a, c,
-    );
+    let parent = g.parent;
+    let rank = g.rank;
+    let yes = questions::neighbours_reachable(g.width, g.height, diagonal, &parent, &rank, a, c);
     Ok(yes)
 }
 
@@ -258,8 +269,8 @@ pub fn neighbours_unreachable(
     ensures { result ≡ neighbours_unreachable_from g diagonal start goal }
 {
     let (a, c) = asked(g, start, goal)?;
-    let yes = questions::neighbours_unreachable(
-        g.width, g.height, diagonal, &g.parent, &g.rank, a, c,
-    );
+    let parent = g.parent;
+    let rank = g.rank;
+    let yes = questions::neighbours_unreachable(g.width, g.height, diagonal, &parent, &rank, a, c);
     Ok(yes)
 }

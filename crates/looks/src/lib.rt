@@ -91,14 +91,14 @@ impl<'a> Scene<'a> {
         self.sees_on(d, c) || self.sees_on(e, c)
     }
 
-    // Whether d is diagonal, and a straight jump along x or y finds something.
+    // Whether d is diagonal, and a straight jump along x or y finds something. It looks to the right first, as `sees_across` does.
     fn sees_beside(&self, d: u8, c: Cell) -> bool
         requires { Within self.now.plan.now.w self.now.plan.now.h c.x c.y }
         ensures { result ≡ turns_at self.now.blocked.now self.now.forced.now self.now.goals.now self.now.plan.now d c.x c.y }
     {
         let left = directions::left_of(d);
         let right = directions::right_of(d);
-        d % 2 == 1 && self.sees_either(left, right, c)
+        d % 2 == 1 && self.sees_either(right, left, c)
     }
 
     // Whether diagonals are off, and a perpendicular straight jump finds something.

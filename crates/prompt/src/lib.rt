@@ -6,14 +6,14 @@ ghost use Rattle.std.specs.Prelude.{◌≤◌, length, IfOk};
 
 use faults::Fault;
 use std::env::{Env, FillError};
-use std::fmt::InlineText;
+use std::fmt::{InlineText, Write};
 use std::fs::Files;
 use std::io::Read;
 use std::str::Utf8Error;
 use std::{fmt, fs, io, str};
 
 // Standard error that takes any bytes, since the name of a file need not be text.
-pub trait EprintBytes: Eprint {
+pub trait EprintBytes {
     fn eprint_bytes(&self, bytes: &[u8]) -> io::Result<()>;
 }
 
@@ -70,18 +70,32 @@ impl fmt::Display for Failure {
     }
 }
 
+// Takes the text of a format to standard error. A write that fails there can be told to nobody, so what comes after it is still tried.
+#[derive(Drop)]
+struct StderrText<'a, R> {
+    rt: &'a R,
+}
+
+impl<R: EprintBytes> fmt::Write for StderrText<'_, R> {
+    fn write_str(&mut self, s: &str) -> fmt::Result {
+        let _ = self.rt.eprint_bytes(s.as_bytes());
+        Ok(())
+    }
+}
+
 // Tells what is wrong with what has this name. A write that fails on standard error can be told to nobody.
-pub fn tell<D: fmt::Display + Drop>(rt: &impl EprintBytes, program: &str, name: &[u8], why: D) {
-    let _ = eprint!(rt; "{program}");
+pub fn tell<D: fmt::Display + Drop>(rt: &impl EprintBytes, program: &[u8], name: &[u8], why: D) {
+    let _ = rt.eprint_bytes(program);
     let _ = rt.eprint_bytes(name);
-    let _ = eprintln!(rt; ": {why}");
+    let mut text = StderrText { rt };
+    let _ = writeln!(text, ": {why}");
 }
 
 // Writes a program's words of help on standard output, and after them the form of a map.
-pub fn help(rt: &impl Print, words: &str) -> io::Result<()> {
-    rt.print(words)?;
-    rt.print(
-        "
+pub fn help(rt: &impl Print, words: &[u8]) -> io::Result<()> {
+    rt.write_all(words)?;
+    rt.write_all(
+        b"
 A map is lines of text, each ended by a newline; x goes to the right and y down, from 0:
   width=3         a number from 1 to 64
   height=1        a number from 1 to 64
@@ -211,7 +225,7 @@ impl fmt::Display for Letter {
 }
 
 // Says what is wrong with a map text of that name; nothing where it is a map.
-pub fn tell_fault(rt: &impl EprintBytes, program: &str, name: &[u8], text: &[u8]) {
+pub fn tell_fault(rt: &impl EprintBytes, program: &[u8], name: &[u8], text: &[u8]) {
     let mut blocked = [0u8; 4096];
     if let Err(bad) = maps::read(text, &mut blocked) {
         let line = bad.line;

@@ -1,5 +1,5 @@
 // The blocks of the list, and what is printed.
-ghost use Rattle.std.specs.Prelude.{◌<◌};
+ghost use Rattle.std.specs.Prelude.{◌<◌, ◌≤◌, length, IfSome};
 
 use std::io;
 use std::io::Read;
@@ -36,7 +36,7 @@ impl TryFrom<u8> for Kind {
 }
 
 // A block's kind as the list numbers it, and the bytes after it.
-#[derive(Drop)]
+#[derive(Clone, Copy)]
 pub struct Block<'a> {
     pub kind: u8,
     pub bytes: &'a [u8],
@@ -44,7 +44,9 @@ pub struct Block<'a> {
 
 // Reads the next block into the room that is lent. It begins with its length, of which the kind is one byte. None at the list's end, where the kind is 0,
 // and where a block is cut short or longer than the room.
-pub fn next_block<'a>(input: &mut impl Read, room: &'a mut [u8]) -> Option<Block<'a>> {
+pub fn next_block<'a>(input: &mut impl Read, room: &'a mut [u8]) -> Option<Block<'a>>
+    ensures within { IfSome result (λ block. length block.bytes.now ≤ length room.old) }
+{
     let mut bytes = [0u8; 5];
     let head = prompt::read_full(input, &mut bytes);
     let kind = lists::u8_at(head, 4);

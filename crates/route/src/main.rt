@@ -8,7 +8,7 @@ use std::fs::Files;
 use std::io;
 use std::io::Read;
 
-const PROGRAM: &str = "route: ";
+const PROGRAM: &[u8] = b"route: ";
 
 // Tells of a write on standard output that failed.
 fn tell_unwritten(rt: &impl EprintBytes, wrote: io::Result<()>) {
@@ -20,7 +20,7 @@ fn tell_unwritten(rt: &impl EprintBytes, wrote: io::Result<()>) {
 fn help(rt: &impl Print) -> io::Result<()> {
     prompt::help(
         rt,
-        "route finds a way for a cart on the floor of a map, and prints it as numbers.
+        b"route finds a way for a cart on the floor of a map, and prints it as numbers.
 
   route FILE      the map in this file
   route           the map on standard input

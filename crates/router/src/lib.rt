@@ -84,8 +84,10 @@ pub fn route(text: &[u8], out: &mut [u8]) -> usize
     if let Err(r) = m.outcome {
         return answers::put_bad(out, r.line() as u32);
     }
-    let mut g = m.grid;
-    let _ = grid::generate_components(&mut g, m.diagonal);
+    let mut built = m.grid;
+    let _ = grid::generate_components(&mut built, m.diagonal);
+    // Named anew, since a grid that was lent to be changed is copied at each call that takes it by value.
+    let g = built;
     let mut list = [0i32; 8194];
     let a = searched(&mut list, g, m.diagonal, m.start, m.goal);
     put_outcome(out, &list, g, a)

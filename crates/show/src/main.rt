@@ -13,10 +13,9 @@ use points::{Point, Refusal};
 use prompt::{EprintBytes, Failure};
 use std::env::Env;
 use std::fs::Files;
-use std::io::Read;
 use std::{fmt, io};
 
-const PROGRAM: &str = "show: ";
+const PROGRAM: &[u8] = b"show: ";
 
 // ---- a floor as it is drawn
 
@@ -156,16 +155,17 @@ fn say_end(rt: &impl Print, who: &str, letter: Option<u8>) -> io::Result<()> {
 
 // ---- what is shown
 
-// Draws a route that was found: its walk, and over it its waypoints. What is left of the two lists are points outside, which are drawn nowhere.
+// Draws a route that was found: its walk, and over it its waypoints. A walk longer than its room is not drawn.
 fn put_route(canvas: &mut Canvas, list: &[i32], outcome: Result<Found, Refusal>) {
     let Ok(found) = outcome else {
         return;
     };
+    let waypoints = first(list, found.length);
     let mut path = [-1i32; 16384];
-    if paths::waypoints_to_path(first(list, found.length), &mut path).is_ok() {
-        canvas.put_all(&path, b'*');
+    if let Ok(steps) = paths::waypoints_to_path(waypoints, &mut path) {
+        canvas.put_all(first(&path, steps), b'*');
     }
-    canvas.put_all(list, b'o');
+    canvas.put_all(waypoints, b'o');
 }
 
 // The letter of the goal, which is drawn over the start.
@@ -180,28 +180,33 @@ fn put_end(canvas: &mut Canvas, p: Point, letter: Option<u8>) {
     }
 }
 
-// Searches on the map's grid, draws the way on its floor, and tells what came of it.
-fn draw(rt: &impl Print, m: MapRead) -> io::Result<()> {
-    let mut g = m.grid;
-    let _ = grid::generate_components(&mut g, m.diagonal);
+// Searches on a grid, draws the way on its floor, and tells what came of it.
+fn draw(rt: &impl Print, g: Grid, diagonal: bool, start: Point, goal: Point) -> io::Result<()> {
     let cells = g.blocked;
     let mut canvas = Canvas {
         cells,
         width: g.width,
         height: g.height,
     };
-    let start = canvas.letter(m.start, b'S');
-    let goal = canvas.letter(m.goal, goal_mark(m.start, m.goal));
+    let start_letter = canvas.letter(start, b'S');
+    let goal_letter = canvas.letter(goal, goal_mark(start, goal));
     let mut list = [-1i32; 8194];
-    let answer = router::searched(&mut list, g, m.diagonal, m.start, m.goal);
+    let answer = router::searched(&mut list, g, diagonal, start, goal);
     put_route(&mut canvas, &list, answer.outcome);
-    put_end(&mut canvas, m.start, start);
-    put_end(&mut canvas, m.goal, goal);
+    put_end(&mut canvas, start, start_letter);
+    put_end(&mut canvas, goal, goal_letter);
     canvas.put_cells();
     canvas.say(rt)?;
     say_answer(rt, g, &list, answer)?;
-    say_end(rt, "the start", start)?;
-    say_end(rt, "the goal", goal)
+    say_end(rt, "the start", start_letter)?;
+    say_end(rt, "the goal", goal_letter)
+}
+
+// Draws the floor of a map on its grid with the components built.
+fn draw_map(rt: &impl Print, m: &MapRead) -> io::Result<()> {
+    let mut g = m.grid;
+    let _ = grid::generate_components(&mut g, m.diagonal);
+    draw(rt, g, m.diagonal, m.start, m.goal)
 }
 
 // Writes the name of a file over its floor, after an empty line where something stands above.
@@ -216,7 +221,7 @@ fn say_name(rt: &impl Print, name: &[u8], begun: bool) -> io::Result<()> {
 fn say_help(rt: &impl Print) -> io::Result<()> {
     prompt::help(
         rt,
-        "show draws the floor of a map, with the way of a cart from its start to its goal.
+        b"show draws the floor of a map, with the way of a cart from its start to its goal.
 
   show FILE...    the maps in these files, each under its name where there are several
   show            the map on standard input
@@ -231,32 +236,24 @@ What is wrong with a map is said on standard error, and the other files are show
     )
 }
 
-// What an argument asks for.
+// What an argument asks for: help, or the floor of a text.
 #[derive(Drop)]
-enum Page {
+enum Page<'a> {
     Help,
-    Floor(MapRead),
+    Text(&'a [u8]),
 }
 
-// The map that an input gives, or None where it is no map, which is told.
-fn map_from(rt: &impl EprintBytes, name: &[u8], input: &mut impl Read) -> Option<MapRead> {
-    let mut room = [0u8; 8193];
-    let text = prompt::read_full(input, &mut room);
-    let m = floors::read_map(text);
-    if m.outcome.is_err() {
-        prompt::tell_fault(rt, PROGRAM, name, text);
-        return None;
-    }
-    Some(m)
-}
-
-// The page that a name asks for, or None where its file holds no map, which is told.
-fn asked_for(rt: &(impl Files + EprintBytes), name: &[u8]) -> Option<Page> {
+// The page that a name asks for, its text in the room that is lent, or None where its file cannot be read, which is told.
+fn asked_for<'a>(
+    rt: &(impl Files + EprintBytes),
+    name: &[u8],
+    room: &'a mut [u8],
+) -> Option<Page<'a>> {
     if name == b"--help".as_slice() {
         return Some(Page::Help);
     }
     match prompt::open(rt, name) {
-        Ok(mut file) => map_from(rt, name, &mut file).map(Page::Floor),
+        Ok(mut file) => Some(Page::Text(prompt::read_full(&mut file, room))),
         Err(why) => {
             prompt::tell(rt, PROGRAM, name, why);
             None
@@ -264,48 +261,102 @@ fn asked_for(rt: &(impl Files + EprintBytes), name: &[u8]) -> Option<Page> {
     }
 }
 
-// Writes a page; a floor under its name where several are named.
-fn show_page(
-    rt: &impl Print,
-    page: Page,
+// Shows the floor of a text, under its name where several are named. Answers whether there is one; what is wrong with a text that is no map is told.
+fn show_text(
+    rt: &(impl Print + EprintBytes),
     name: &[u8],
+    text: &[u8],
     several: bool,
     begun: bool,
-) -> io::Result<()> {
+) -> io::Result<bool> {
+    let m = floors::read_map(text);
+    if m.outcome.is_err() {
+        prompt::tell_fault(rt, PROGRAM, name, text);
+        return Ok(false);
+    }
+    if several {
+        say_name(rt, name, begun)?;
+    }
+    draw_map(rt, &m)?;
+    Ok(true)
+}
+
+// Shows a page. Answers whether anything was written.
+fn show_page(
+    rt: &(impl Print + EprintBytes),
+    name: &[u8],
+    page: Page<'_>,
+    several: bool,
+    begun: bool,
+) -> io::Result<bool> {
     match page {
-        Page::Help => say_help(rt),
-        Page::Floor(m) => {
-            if several {
-                say_name(rt, name, begun)?;
-            }
-            draw(rt, m)
+        Page::Help => {
+            say_help(rt)?;
+            Ok(true)
         }
+        Page::Text(text) => show_text(rt, name, text, several, begun),
     }
 }
 
 // Tells of a write on standard output that failed.
-fn tell_unwritten(rt: &impl EprintBytes, wrote: io::Result<()>) {
-    if let Err(e) = wrote {
-        prompt::tell(rt, PROGRAM, b"standard output", Failure::from(e));
+fn tell_unwritten(rt: &impl EprintBytes, why: io::Error) {
+    prompt::tell(rt, PROGRAM, b"standard output", Failure::from(why));
+}
+
+// Says what is wrong with a page's text, where nothing may be written any more.
+fn tell_page(rt: &impl EprintBytes, name: &[u8], page: Page<'_>) {
+    if let Page::Text(text) = page {
+        prompt::tell_fault(rt, PROGRAM, name, text);
     }
 }
 
-// Shows what each argument asks for. After a write that failed nothing is written, and the maps are read alone, so that what is wrong with them is told.
+// What has become of standard output: whether anything stands on it, and whether a write failed, after which nothing is written.
+#[derive(Clone, Copy)]
+struct Written {
+    begun: bool,
+    failed: bool,
+}
+
+// Shows what a name asks for, and answers what has become of standard output.
+fn show_named(
+    rt: &(impl Files + Print + EprintBytes),
+    name: &[u8],
+    several: bool,
+    written: Written,
+) -> Written {
+    let mut room = [0u8; 8193];
+    let Some(page) = asked_for(rt, name, &mut room) else {
+        return written;
+    };
+    if written.failed {
+        tell_page(rt, name, page);
+        return written;
+    }
+    match show_page(rt, name, page, several, written.begun) {
+        Ok(shown) => Written {
+            begun: written.begun || shown,
+            failed: false,
+        },
+        Err(e) => {
+            tell_unwritten(rt, e);
+            Written {
+                begun: true,
+                failed: true,
+            }
+        }
+    }
+}
+
+// Shows what each argument asks for. After a write that failed the maps are read alone, so that what is wrong with them is told.
 fn show_all(rt: &(impl Env + Files + Print + EprintBytes), count: usize) {
-    let mut wrote = Ok(());
-    let mut begun = false;
+    let mut written = Written {
+        begun: false,
+        failed: false,
+    };
     for i in 1..count {
         let mut room = [0u8; 4096];
         match prompt::file_name(rt, i, &mut room) {
-            Ok(name) => {
-                if let Some(page) = asked_for(rt, name)
-                    && wrote.is_ok()
-                {
-                    wrote = show_page(rt, page, name, 2 < count, begun);
-                    tell_unwritten(rt, wrote);
-                    begun = true;
-                }
-            }
+            Ok(name) => written = show_named(rt, name, 2 < count, written),
             Err(why) => prompt::tell(rt, PROGRAM, b"file name", why),
         }
     }
@@ -315,7 +366,11 @@ fn main(rt: HostRuntime) {
     let count = prompt::arg_count(&rt);
     if 1 < count {
         show_all(&rt, count);
-    } else if let Some(m) = map_from(&rt, b"standard input", &mut rt.stdin()) {
-        tell_unwritten(&rt, draw(&rt, m));
+        return;
+    }
+    let mut room = [0u8; 8193];
+    let text = prompt::read_full(&mut rt.stdin(), &mut room);
+    if let Err(e) = show_text(&rt, b"standard input", text, false, false) {
+        tell_unwritten(&rt, e);
     }
 }

@@ -1,11 +1,12 @@
-// What an expansion is made of: a node's parent, whether a cell is expanded again, and a successor that is offered.
+// What an expansion is made of: a node's parent, the next direction of a mask, whether a cell is expanded again, and a successor that is offered.
 #![tactic(auto)]
 
-ghost use Rattle.std.specs.Prelude.{◌≡◌, ◌^◌, ◌<◌, length};
+ghost use Rattle.std.specs.Prelude.{◌≡◌, true, ◌%◌, ◌^◌, ◌<◌, ◌≤◌, length};
+ghost use Rattle.masks.specs.Masks.{has_bit};
 ghost use Rattle.goals.specs.Goals.{Aimed};
 ghost use Rattle.offers.specs.Search.{Lent, Stays, out_of, view};
 ghost use Rattle.stops.specs.Stops.{Sized, Marked, Inside};
-ghost use Rattle.successors.specs.Successors.{parent_of, again_at, give_of};
+ghost use Rattle.successors.specs.Successors.{parent_of, Clear, again_at, give_of};
 
 use goals::Plan;
 use offers::Work;
@@ -21,6 +22,19 @@ pub fn parent_of(work: &Work<'_>, from: usize) -> Option<usize>
         return None;
     }
     Some(work.parent[from] as usize)
+}
+
+// The next direction that a mask has, of those at or after the given one; 8 where there is none.
+pub fn next_of(mask: u8, from: u8) -> u8
+    requires { from ≤ 8 }
+    ensures { Clear mask from result × (result < 8 → has_bit mask (result % 8) ≡ true) }
+{
+    for e in from..8 {
+        if masks::bit(mask, e) {
+            return e;
+        }
+    }
+    8
 }
 
 // Whether a cell that was reached in direction e is expanded again.

@@ -31,12 +31,18 @@ pub fn get_waypoints_single_goal(
     if !grid::legal(g) {
         return finder::refused(Refusal::State);
     }
+    // Copied alone: lent as `&g.blocked`, the whole grid would be copied.
+    let blocked = g.blocked;
+    let neighbours = g.neighbours;
+    let forced = g.forced;
+    let links = g.parent;
+    let ranks = g.rank;
     finder::single_goal(
-        &g.blocked,
-        &g.neighbours,
-        &g.forced,
-        &g.parent,
-        &g.rank,
+        &blocked,
+        &neighbours,
+        &forced,
+        &links,
+        &ranks,
         number,
         place,
         parent,
@@ -73,10 +79,14 @@ pub fn get_waypoints_multiple_goals(
     if !grid::legal(g) {
         return finder::refused(Refusal::State);
     }
+    // Copied alone: lent as `&g.blocked`, the whole grid would be copied.
+    let blocked = g.blocked;
+    let neighbours = g.neighbours;
+    let forced = g.forced;
     finder::multiple_goals(
-        &g.blocked,
-        &g.neighbours,
-        &g.forced,
+        &blocked,
+        &neighbours,
+        &forced,
         goals,
         number,
         place,

@@ -5,34 +5,38 @@ use Rattle.bends.specs.Bends.{way_of}
 use Rattle.headings.specs.Headings.{heading_of}
 use Rattle.goals.specs.Goals.{most_side}
 use Rattle.offers.specs.Search.{out_of, view}
-use Rattle.offers.proofs.Rounds.{passed_on}
+use Rattle.offers.proofs.Rounds.{passed_on, round_start}
 use Rattle.jumps.proofs.Found.{Landed, jump_found}
 use Rattle.expansion.specs.Expand.{tables}
 use Rattle.expansion.proofs.Laws.{found_none, found_more, found_give, reached_none, expand_same}
-use Rattle.expansion.proofs.Turns.{faced, finished, halted, passed, turned}
+use Rattle.expansion.proofs.Turns.{faced, finished, halted, turned, skipped}
 use Rattle.expansion.proofs.+expand_follow.Goals as goal
-use Rattle.expansion.proofs.+expand_follow.Goals.{expand-then-bit+in_ok-follow, expand-else-bit}
 
 pub expand-returns-in_default-clause-expanded : goal.expand-returns-in_default-clause-expanded
 expand-returns-in_default-clause-expanded t c = expand_same _ _ _ _ _ _ _ (ap way_of (sym c.in_default.is ∙ c.direction_between.ensures ∙ ap (heading_of c.args.above) c.spot-here.ensures))
 
+pub expand-loop-e-init : goal.expand-loop-e-init
+expand-loop-e-init t c =
+    let f = faced (tables c.args.blocked.now c.args.neighbours.now c.args.forced.now c.args.goals.now) c.args.p c.args.above c.args.node _ _ c.way-travel.result _ _ _ _ c.spot-here.ensures c.direction_between.ensures c.in-Ok.is c.way-travel.ensures c.byte-around.ensures c.pruned_mask-mask.ensures c.price_of-price.ensures in
+    (skipped _ _ _ _ _ _ _ _ _ _ f _ _ _ _ c.next_of-e.ensures.0 (round_start _ _ _ _ c.requires.lent), c.next_of-e.ensures.1)
+
 pub expand-returns-in_err-follow-clause-expanded : goal.expand-returns-in_err-follow-clause-expanded
 expand-returns-in_err-follow-clause-expanded t c =
     let f = faced (tables c.args.blocked.now c.args.neighbours.now c.args.forced.now c.args.goals.now) c.args.p c.args.above c.args.node _ _ c.way-travel.result _ _ _ _ c.spot-here.ensures c.direction_between.ensures c.in-Ok.is c.way-travel.ensures c.byte-around.ensures c.pruned_mask-mask.ensures c.price_of-price.ensures in
-    rw (passed_on c.from_residual.result c.in_err-follow.field-0.0 c.from_residual.ensures.1) (halted _ _ _ _ _ _ _ _ _ _ f _ _ _ c.loop-e.invariant c.loop-e-test.true (sym c.bit.ensures ∙ c.if-bit.true) c.follow.new.work _ c.follow.ensures.followed _ c.in_err-follow.was)
+    rw (passed_on c.from_residual.result c.in_err-follow.field-0.0 c.from_residual.ensures.1) (halted _ _ _ _ _ _ _ _ _ _ f _ _ _ c.loop-e.invariant.0 c.loop-e-test.true (c.loop-e.invariant.1 c.loop-e-test.true) c.follow.new.work _ c.follow.ensures.followed _ c.in_err-follow.was)
 
 pub expand-loop-e-preserved : goal.expand-loop-e-preserved
 expand-loop-e-preserved t c =
-    let f = faced (tables c.args.blocked.now c.args.neighbours.now c.args.forced.now c.args.goals.now) c.args.p c.args.above c.args.node _ _ c.way-travel.result _ _ _ _ c.spot-here.ensures c.direction_between.ensures c.in-Ok.is c.way-travel.ensures c.byte-around.ensures c.pruned_mask-mask.ensures c.price_of-price.ensures in
-    elim c.if-bit.branch [
-      | expand-then-bit+in_ok-follow w ↦ rw w.work-is (turned _ _ _ _ _ _ _ _ _ _ f _ _ _ c.loop-e.invariant c.loop-e-test.true (sym c.bit.ensures ∙ w.if-bit.true) w.follow.new.work _ w.follow.ensures.followed c.requires _ w.in_ok-follow.was w.follow.ensures.stays)
-      | expand-else-bit w ↦ rw w.work-is (passed _ _ _ _ _ _ _ _ _ _ f _ _ _ c.loop-e.invariant c.loop-e-test.true (sym c.bit.ensures ∙ w.if-bit.false))
-    ]
+    let f = faced (tables c.args.blocked.now c.args.neighbours.now c.args.forced.now c.args.goals.now) c.args.p c.args.above c.args.node _ _ c.way-travel.result _ _ _ _ c.spot-here.ensures c.direction_between.ensures c.in-Ok.is c.way-travel.ensures c.byte-around.ensures c.pruned_mask-mask.ensures c.price_of-price.ensures in (
+      skipped _ _ _ _ _ _ _ _ _ _ f _ _ _ _ c.next_of-e-in-loop-e.ensures.0
+          (turned _ _ _ _ _ _ _ _ _ _ f _ _ _ c.loop-e.invariant.0 c.loop-e-test.true (c.loop-e.invariant.1 c.loop-e-test.true) c.follow.new.work _ c.follow.ensures.followed c.requires _ c.in_ok-follow.was c.follow.ensures.stays),
+      c.next_of-e-in-loop-e.ensures.1,
+    )
 
 pub expand-returns-clause-expanded : goal.expand-returns-clause-expanded
 expand-returns-clause-expanded t c =
     let f = faced (tables c.args.blocked.now c.args.neighbours.now c.args.forced.now c.args.goals.now) c.args.p c.args.above c.args.node _ _ c.way-travel.result _ _ _ _ c.spot-here.ensures c.direction_between.ensures c.in-Ok.is c.way-travel.ensures c.byte-around.ensures c.pruned_mask-mask.ensures c.price_of-price.ensures in
-    finished _ _ _ _ _ _ _ _ _ _ f _ _ _ c.loop-e.invariant c.loop-e-test.false
+    finished _ _ _ _ _ _ _ _ _ _ f _ _ _ c.loop-e.invariant.0 c.loop-e-test.false
 
 pub follow-overflow_add-cost : goal.follow-overflow_add-cost
 follow-overflow_add-cost t c =

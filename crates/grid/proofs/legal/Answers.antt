@@ -25,4 +25,4 @@ pub returns-then-sized : goal.returns-then-sized
 returns-then-sized c = c.state_ok.ensures ∙ Tests.good_size _ (sym c.sized.ensures ∙ c.if-sized.true)
 
 pub returns-else-sized : goal.returns-else-sized
-returns-else-sized c = c.if-sized.false ∙ Tests.bad_size _ (sym c.sized.ensures ∙ c.if-sized.false)
+returns-else-sized c = Tests.bad_size _ (sym c.sized.ensures ∙ c.if-sized.false)
